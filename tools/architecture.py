@@ -19,7 +19,7 @@ GROUPS = (
         "devices, and the program",
         "#f4d9c6",
         "sendmail mail_edge link_edge spawn_edge spool_disk delivery_devices told_devices "
-        "queue_devices session_devices",
+        "queue_devices session_devices shared_devices",
     ),
     (
         "configuration and rules",

@@ -1,12 +1,11 @@
 // Lines to peers. They tell nothing but how often they failed.
 ghost use Rattle.std.specs.Prelude.{◌≡◌, ◌≤◌, None, IfOk, length};
 
-use crate::counting::counted;
 use crate::line::Line;
-use crate::motion::Motion;
 use crate::patience::Patience;
 use link_edge::{Dialer, Peer};
 use mail_base::{Failed, Text};
+use shared_devices::{Motion, counted};
 use std::io;
 use std::io::ErrorKind;
 
@@ -18,7 +17,8 @@ struct Open {
 }
 
 /// Lines to peers over sockets of the internet and of this machine, each with its times. A peer
-/// that takes longer is a failure of the call, and so is an address that isn't one.
+/// that takes longer is a failure of the call, and so is an address that isn't one. What was changed
+/// in the queue is on the disk before a dial and before anything is written.
 pub struct SystemDialer<'a> {
     rt: HostRuntime,
     motion: &'a Motion,
@@ -66,6 +66,7 @@ impl<'a> SystemDialer<'a> {
         ensures { self.new.faults ≡ self.old.faults }
     {
         self.note();
+        self.settle()?;
         self.lines.reserve(1)?;
         let line = match peer {
             Peer::Host { address, port } => {
@@ -96,9 +97,18 @@ impl<'a> SystemDialer<'a> {
         ensures { self.new.faults ≡ self.old.faults }
     {
         self.note();
+        self.settle()?;
         match self.lines.iter_mut().find(|open| open.number == number) {
             Some(open) => open.line.write(&self.rt, bytes),
             None => Err(io::Error::from(ErrorKind::NotConnected)),
+        }
+    }
+
+    // Brings to the disk what was changed in the queue.
+    fn settle(&self) -> io::Result<()> {
+        match self.motion.unsynced().settle() {
+            Ok(()) => Ok(()),
+            Err(Failed) => Err(io::Error::from(ErrorKind::Other)),
         }
     }
 

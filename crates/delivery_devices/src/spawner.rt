@@ -1,10 +1,8 @@
 // Programs of the system as children. They tell nothing but how often they failed.
 ghost use Rattle.std.specs.Prelude.{◌≡◌, None};
 
-use crate::counting::counted;
-use crate::descriptor::Descriptor;
-use crate::motion::Motion;
 use mail_base::{Failed, Seq, Text};
+use shared_devices::{Descriptor, Motion, counted};
 use spawn_edge::Spawner;
 use std::alloc::Global;
 use std::os::unix::process::ExitStatusExt;
@@ -30,7 +28,7 @@ struct Child {
 /// Programs of the system. A child's standard input is a file with no name that holds its input,
 /// its standard output and error go to /dev/null, and it has no other descriptor. A start fails
 /// where the program can't be run, where an argument has a NUL, or where memory, descriptors or
-/// room for the input are wanting.
+/// room for the input are wanting. What was changed in the queue is on the disk before it.
 ///
 /// A poll never waits for a child. Where nothing was done since, and as many polls as there are
 /// children found theirs running, the last of them waits 1 to 5 milliseconds, or lets the floor wait
@@ -89,6 +87,7 @@ impl<'a> SystemSpawner<'a> {
     {
         self.motion.note_move();
         self.motion.note_work();
+        self.motion.unsynced().settle()?;
         self.children.reserve(1).map_err(|_| Failed)?;
         let words = words_of(self.rt.alloc(), program, args)?;
         let pid = started(program, &words, input)?;
@@ -149,6 +148,8 @@ impl<'a> SystemSpawner<'a> {
         if self.motion.has_floor() {
             self.motion.note_pause(self.wait);
         } else {
+            // Where that fails, the next change or start does.
+            let _ = self.motion.unsynced().settle();
             thread::sleep(&self.rt, Duration::from_millis(u64::from(self.wait)));
         }
     }

@@ -6,9 +6,10 @@ mod order;
 
 use crate::order::Order;
 use anyhow::Result;
-use delivery_devices::{Motion, Patience, SystemDialer};
+use delivery_devices::{Patience, SystemDialer};
 use mail_base::{Outcomes, Result1, Seq};
 use mailer_smtp::deliver;
+use shared_devices::Motion;
 use std::io::{Read, Write};
 
 fn main(rt: HostRuntime) -> Result<()> {
@@ -26,7 +27,7 @@ fn main(rt: HostRuntime) -> Result<()> {
 }
 
 fn hand_over(rt: HostRuntime, order: &Order, outcomes: &mut Outcomes) -> Result<()> {
-    let motion = Motion::new();
+    let motion = Motion::new(rt.alloc());
     let mut dialer = SystemDialer::new(rt, &motion, Patience::of_environment());
     deliver(
         rt.alloc(),

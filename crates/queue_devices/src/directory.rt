@@ -1,7 +1,6 @@
 // The names of the files in a directory, of any bytes.
-use crate::descriptor::Descriptor;
-use crate::path::is_dots;
 use mail_base::{EdgeFault, Failed, Id, Text};
+use shared_devices::{Descriptor, is_dots};
 use std::alloc::Global;
 
 /// The bytes that one reading of a directory may take; the longest name has 255.

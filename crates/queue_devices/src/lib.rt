@@ -2,15 +2,11 @@
 //! but how often they failed.
 #![tactic(auto)]
 
-mod counting;
-mod descriptor;
 mod directory;
-mod path;
 mod queue_dirs;
 mod queue_view;
 mod refusal;
 
-pub use descriptor::Descriptor;
 pub use queue_dirs::QueueDirs;
 pub use queue_view::QueueView;
 pub use refusal::directory_line;

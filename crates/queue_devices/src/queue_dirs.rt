@@ -2,13 +2,13 @@
 ghost use Rattle.std.specs.Prelude.{◌≡◌, IfOk, None};
 ghost use Rattle.spool_disk.specs.Listings.{IsAscending};
 
-use crate::counting::{counted, counted_edge};
-use crate::descriptor::Descriptor;
 use crate::directory::names_in;
-use crate::path::{Path, dir_path, path_of};
 use crate::refusal::noted;
-use mail_base::{EdgeFault, Failed, Id, Kind, NoMemory, Seq, Text, TryCopy};
+use mail_base::{EdgeFault, Failed, Id, Kind, Seq, Text, TryCopy};
 use mail_edge::LARGEST_FILE;
+use shared_devices::{
+    Descriptor, Motion, Move, Path, Unsynced, counted, counted_edge, dir_path, path_of,
+};
 use spool_disk::{Spool, sorted_names};
 use std::alloc::Global;
 use told_devices::Look;
@@ -18,14 +18,17 @@ use told_devices::Look;
 /// A directory is opened and locked at its first use, and stays so to the end, so that it has one
 /// owner; one that another opening has locked is a fault, as are a directory that is absent, a file
 /// larger than 67,108,864 bytes and a disk without room. A directory that can't be opened or locked
-/// has a line on standard error. A file that is written belongs to its owner alone and is on the
-/// disk before the call answers, and so is a change of names. But what tidies a finished entry, its
-/// control file's last name and the removal of its body, waits for the next change of names there,
-/// and comes to the disk before anything is changed in another directory.
+/// has a line on standard error. A file that is written belongs to its owner alone. It is on the
+/// disk before the call answers, and so is a change of names, unless the devices of its run are late
+/// (`Unsynced`). But what tidies a finished entry, its control file's last name and the removal of
+/// its body, waits for the next change of names there, and comes to the disk before anything is
+/// changed in another directory.
 #[derive(Drop)]
 pub struct QueueDirs<'a> {
+    alloc: Global,
     /// What stands before the name of each directory.
     prefix: &'a [u8],
+    unsynced: &'a Unsynced,
     held: Vec<Held>,
     faults: u64,
 }
@@ -34,16 +37,17 @@ pub struct QueueDirs<'a> {
 #[derive(Drop)]
 struct Held {
     dir: Text,
-    open: Descriptor,
-    /// Whether a name in it may not have reached the disk.
-    waits: bool,
+    /// Its place among the directories that are open.
+    place: usize,
 }
 
 impl<'a> QueueDirs<'a> {
     /// One that holds no directory yet. The prefix stands before the name of each.
-    pub fn new(alloc: Global, prefix: &'a [u8]) -> QueueDirs<'a> {
+    pub fn new(alloc: Global, prefix: &'a [u8], motion: &'a Motion) -> QueueDirs<'a> {
         QueueDirs {
+            alloc,
             prefix,
+            unsynced: motion.unsynced(),
             held: Vec::new(alloc),
             faults: 0,
         }
@@ -56,16 +60,20 @@ impl<'a> QueueDirs<'a> {
         self.faults
     }
 
-    // The place of a directory among those that are held.
+    // The place of a directory, which is opened and locked at its first use.
     fn hold(&mut self, dir: &Text) -> Result<usize, EdgeFault>
         ensures { self.new.faults ≡ self.old.faults }
     {
-        if let Some(place) = self.held.iter().position(|held| held.dir == *dir) {
-            return Ok(place);
+        if let Some(held) = self.held.iter().find(|held| held.dir == *dir) {
+            return Ok(held.place);
         }
-        let held = locked(self.prefix, dir)?;
+        if self.held.reserve(1).is_err() {
+            return Err(EdgeFault::NoMemory);
+        }
+        let held = locked(self.alloc, self.prefix, self.unsynced, dir)?;
+        let place = held.place;
         match self.held.push(held) {
-            Ok(()) => Ok(self.held.len().saturating_sub(1)),
+            Ok(()) => Ok(place),
             Err(_) => Err(EdgeFault::NoMemory),
         }
     }
@@ -75,9 +83,11 @@ impl<'a> QueueDirs<'a> {
         ensures order { IfOk result IsAscending }
         ensures faults { self.new.faults ≡ self.old.faults }
     {
-        let place = self.hold(dir)?;
-        let held = self.held.get(place).ok_or(EdgeFault::Failed)?;
-        let names = names_in(alloc, &held.open)?;
+        self.hold(dir)?;
+        self.unsynced.settle()?;
+        let path = dir_path(self.prefix, dir)?;
+        let open = noted(&path, Descriptor::to_dir(&path))?;
+        let names = names_in(alloc, &open)?;
         Ok(sorted_names(names)?)
     }
 
@@ -86,7 +96,9 @@ impl<'a> QueueDirs<'a> {
         ensures { self.new.faults ≡ self.old.faults }
     {
         self.hold(dir)?;
-        read_file(alloc, &path_of(self.prefix, dir, name)?)
+        let path = path_of(self.prefix, dir, name)?;
+        self.unsynced.settle_at(&path)?;
+        read_file(alloc, &path)
     }
 
     // Makes a file hold these bytes.
@@ -94,23 +106,28 @@ impl<'a> QueueDirs<'a> {
         ensures { self.new.faults ≡ self.old.faults }
     {
         let place = self.hold(dir)?;
-        self.settle_others(place)?;
-        write_file(&path_of(self.prefix, dir, name)?, bytes)?;
+        let path = path_of(self.prefix, dir, name)?;
+        self.unsynced.write(place, &path, bytes)?;
         Ok(())
     }
 
-    // Gives a file another name.
+    // Gives a file another name. Where it is the control text of a part, the first part's comes
+    // behind it.
     fn move_file(&mut self, dir: &Text, from: &Text, to: &Text) -> Result<(), EdgeFault>
         ensures { self.new.faults ≡ self.old.faults }
     {
         let place = self.hold(dir)?;
-        self.settle_others(place)?;
         let from_path = path_of(self.prefix, dir, from)?;
         let to_path = path_of(self.prefix, dir, to)?;
-        if os::rename(&from_path, &to_path) != 0 {
-            return Err(EdgeFault::Failed);
-        }
-        self.settle(place, is_of(to, Kind::Sf))
+        let before = if is_of(to, Kind::Qf) {
+            first_part(self.alloc, &from_path)?
+        } else {
+            None
+        };
+        let asked = Move::Rename(&from_path, &to_path);
+        self.unsynced
+            .change(place, asked, before, is_of(to, Kind::Sf))?;
+        Ok(())
     }
 
     // Takes a file away, if it is there.
@@ -118,47 +135,9 @@ impl<'a> QueueDirs<'a> {
         ensures { self.new.faults ≡ self.old.faults }
     {
         let place = self.hold(dir)?;
-        self.settle_others(place)?;
         let path = path_of(self.prefix, dir, name)?;
-        if os::unlink(&path) != 0 && os::errno() != libc::ENOENT {
-            return Err(EdgeFault::Failed);
-        }
-        self.settle(place, is_of(name, Kind::Df))
-    }
-
-    // Waits until the names in a directory have reached the disk, unless the change tidies alone.
-    fn settle(&mut self, place: usize, tidies: bool) -> Result<(), EdgeFault>
-        ensures { self.new.faults ≡ self.old.faults }
-    {
-        let held = self.held.get_mut(place).ok_or(EdgeFault::Failed)?;
-        held.waits = true;
-        if !tidies {
-            held.settle()?;
-        }
-        Ok(())
-    }
-
-    // Waits until the names in all other directories have reached the disk, so that what changes
-    // next in this one is there after them.
-    fn settle_others(&mut self, place: usize) -> Result<(), EdgeFault>
-        ensures { self.new.faults ≡ self.old.faults }
-    {
-        for (at, held) in self.held.iter_mut().enumerate() {
-            if at != place {
-                held.settle()?;
-            }
-        }
-        Ok(())
-    }
-}
-
-impl Held {
-    // Waits until the names in it have reached the disk.
-    fn settle(&mut self) -> Result<(), Failed> {
-        if self.waits {
-            self.open.sync()?;
-            self.waits = false;
-        }
+        self.unsynced
+            .change(place, Move::Remove(&path), None, is_of(name, Kind::Df))?;
         Ok(())
     }
 }
@@ -205,20 +184,52 @@ impl Spool for QueueDirs<'_> {
 
 impl Look for QueueDirs<'_> {
     fn look(&self, alloc: Global, dir: &Text, name: &Text) -> Result<Option<Text>, EdgeFault> {
-        read_file(alloc, &path_of(self.prefix, dir, name)?)
+        let path = path_of(self.prefix, dir, name)?;
+        match self.unsynced.source_of(alloc, &path) {
+            Some(path) => read_at(alloc, path.bytes()),
+            None => Err(EdgeFault::NoMemory),
+        }
     }
 }
 
 // Opens and locks a directory. Its name is copied first, so that what is locked is kept.
-fn locked(prefix: &[u8], dir: &Text) -> Result<Held, EdgeFault> {
+fn locked(
+    alloc: Global,
+    prefix: &[u8],
+    unsynced: &Unsynced,
+    dir: &Text,
+) -> Result<Held, EdgeFault> {
     let path = dir_path(prefix, dir)?;
     let open = noted(&path, Descriptor::to_dir(&path))?;
     noted(&path, open.lock())?;
-    Ok(Held {
-        dir: dir.copy()?,
-        open,
-        waits: false,
-    })
+    let dir = dir.copy()?;
+    let place = unsynced.add_dir(Text::of(alloc, &path)?, open)?;
+    Ok(Held { dir, place })
+}
+
+// How the path of the first part's control text ends, where a file is the control text of a part:
+// its third line then names the first part and its revision, as `pw000000000001 3`.
+fn first_part(alloc: Global, path: &Path) -> Result<Option<Text>, EdgeFault> {
+    let mut head = [0u8; 128];
+    let count = match Descriptor::to_read(path)? {
+        Some(file) => file.read(&mut head)?,
+        None => 0,
+    };
+    let head = head.get(..count).unwrap_or(b"");
+    let Some(id) = parent_in(head) else {
+        return Ok(None);
+    };
+    let mut end = Text::of(alloc, b"/qf")?;
+    end.extend(id)?;
+    Ok(Some(end))
+}
+
+// What the third line names behind its `p`, up to a blank.
+fn parent_in(head: &[u8]) -> Option<&[u8]> {
+    let line = head.split(|byte| *byte == b'\n').nth(2)?;
+    line.strip_prefix(b"p".as_slice())?
+        .split(|byte| *byte == b' ')
+        .next()
 }
 
 // Whether a name is that of a file of this kind.
@@ -231,6 +242,10 @@ fn is_of(name: &Text, kind: Kind) -> bool {
 
 /// The bytes of a file, or `None` where it isn't there.
 pub fn read_file(alloc: Global, path: &Path) -> Result<Option<Text>, EdgeFault> {
+    read_at(alloc, path)
+}
+
+fn read_at(alloc: Global, path: &[u8]) -> Result<Option<Text>, EdgeFault> {
     match Descriptor::to_read(path)? {
         Some(file) => Ok(Some(read_whole(alloc, &file)?)),
         None => Ok(None),
@@ -256,12 +271,4 @@ fn add_whole(file: &Descriptor, bytes: &mut Text) -> Result<(), EdgeFault> {
         bytes.extend(piece.get(..count).ok_or(Failed)?)?;
     }
     Err(EdgeFault::Failed)
-}
-
-// Makes a file that holds these bytes, on the disk.
-fn write_file(path: &Path, bytes: &[u8]) -> Result<(), Failed> {
-    let file = Descriptor::to_write(path)?;
-    file.write_all(bytes)?;
-    file.sync()?;
-    file.close()
 }

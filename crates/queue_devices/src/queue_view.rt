@@ -2,13 +2,11 @@
 ghost use Rattle.std.specs.Prelude.{◌≡◌, IfOk, None};
 ghost use Rattle.spool_disk.specs.Listings.{IsAscending};
 
-use crate::counting::{counted, counted_edge};
-use crate::descriptor::Descriptor;
 use crate::directory::names_in;
-use crate::path::{dir_path, path_of};
 use crate::queue_dirs::read_file;
 use crate::refusal::noted;
 use mail_base::{EdgeFault, Failed, Id, Kind, NoMemory, Seq, Text};
+use shared_devices::{Descriptor, counted, counted_edge, dir_path, path_of};
 use spool_disk::{MemSpool, Spool, sorted_names};
 use std::alloc::Global;
 

@@ -14,13 +14,14 @@ mod words;
 
 use crate::notice::tell;
 use crate::words::{Asked, read_words, word_count};
-use delivery_devices::{Motion, Patience, SystemDialer, SystemSpawner};
+use delivery_devices::{Patience, SystemDialer, SystemSpawner};
 use mail_base::{Seq, Text};
 use queue_devices::{QueueDirs, QueueView};
 use sendmail_run::{Job, Outcome, sendmail};
 use session_devices::{
     DiskFiles, InputStream, LIMITS, OutputStream, SystemClock, SystemFloor, Wires,
 };
+use shared_devices::{Joint, Motion};
 use spool_disk::Spool;
 use std::io::Write;
 use std::process::ExitCode;
@@ -93,12 +94,15 @@ fn run(rt: &HostRuntime, words: &Seq<Text>) -> Outcome {
     if words.len() > MOST_WORDS {
         return Outcome::Usage(u32::MAX);
     }
+    let motion = Motion::late(rt.alloc(), Joint::of_environment());
     if is_listing(rt, words) {
-        run_over(rt, words, &mut QueueView::new(rt.alloc(), b""), None)
+        let mut view = QueueView::new(rt.alloc(), b"");
+        run_over(rt, words, &mut view, &motion, None)
     } else {
         let log = Log::of_environment();
-        let dirs = QueueDirs::new(rt.alloc(), b"");
-        run_over(rt, words, &mut ToldQueue::new(rt.alloc(), dirs, log), log)
+        let dirs = QueueDirs::new(rt.alloc(), b"", &motion);
+        let mut queue = ToldQueue::new(rt.alloc(), dirs, log);
+        run_over(rt, words, &mut queue, &motion, log)
     }
 }
 
@@ -116,19 +120,19 @@ fn run_over<D: Spool>(
     rt: &HostRuntime,
     words: &Seq<Text>,
     spool: &mut D,
+    motion: &Motion,
     log: Option<Log>,
 ) -> Outcome
     requires { length words.now < 2 ^ 32 }
 {
     let wires = Wires::of(&rt.stdin(), &rt.stdout());
-    let motion = Motion::new();
     let site = SystemFloor::new(
         *rt,
         rt.stdin(),
         rt.stdout(),
         Some(wires),
         LIMITS,
-        Some(&motion),
+        Some(motion),
     );
     let mut floor = ToldFloor::new(rt.alloc(), site, log);
     let outcome = sendmail(
@@ -137,9 +141,9 @@ fn run_over<D: Spool>(
         &mut DiskFiles::new(rt),
         spool,
         &mut floor,
-        &mut Told::new(SystemSpawner::new(*rt, &motion), log),
+        &mut Told::new(SystemSpawner::new(*rt, motion), log),
         &mut Told::new(
-            SystemDialer::new(*rt, &motion, Patience::of_environment()),
+            SystemDialer::new(*rt, motion, Patience::of_environment()),
             log,
         ),
         &mut SystemClock::new(*rt),
@@ -148,7 +152,11 @@ fn run_over<D: Spool>(
     );
     floor.finish();
     floor.device.finish();
-    outcome
+    // What was done stands only once it is on the disk.
+    match motion.unsynced().settle() {
+        Ok(()) => outcome,
+        Err(_) => Outcome::SpoolFault,
+    }
 }
 
 fn print(rt: &HostRuntime, text: &[u8]) -> Outcome {

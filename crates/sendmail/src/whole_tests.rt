@@ -1,7 +1,7 @@
 // The program's own call over the real devices.
 ghost use Rattle.std.specs.Prelude.{◌<◌, ◌^◌, IfOk, length};
 
-use delivery_devices::{Motion, PATIENCE, SystemDialer, SystemSpawner};
+use delivery_devices::{PATIENCE, SystemDialer, SystemSpawner};
 use mail_base::{NoMemory, Seq, Text};
 use mail_edge::Clock;
 use queue_devices::{QueueDirs, QueueView};
@@ -9,6 +9,7 @@ use sendmail_run::sendmail;
 use session_devices::{
     DiskFiles, InputStream, LIMITS, OutputStream, SystemClock, SystemFloor, Wires,
 };
+use shared_devices::{Joint, Motion};
 use spool_disk::Spool;
 use std::io::{PipeReader, PipeWriter, Read, Write};
 use std::test::Fail;
@@ -93,13 +94,13 @@ fn words(rt: &HostRuntime, mode: &[u8]) -> Result<Seq<Text>, NoMemory>
 // Serves a session from one pipe to another, and gives the run's status.
 fn serve(rt: &HostRuntime, reader: PipeReader, writer: PipeWriter) -> Result<u8, NoMemory> {
     let wires = Wires::of(&reader, &writer);
-    let motion = Motion::new();
+    let motion = Motion::late(rt.alloc(), Joint::none());
     let mut floor = SystemFloor::new(*rt, reader, writer, Some(wires), LIMITS, Some(&motion));
     let outcome = sendmail(
         rt.alloc(),
         &words(rt, b"-bs")?,
         &mut DiskFiles::new(rt),
-        &mut QueueDirs::new(rt.alloc(), ROOT.as_bytes()),
+        &mut QueueDirs::new(rt.alloc(), ROOT.as_bytes(), &motion),
         &mut floor,
         &mut SystemSpawner::new(*rt, &motion),
         &mut SystemDialer::new(*rt, &motion, PATIENCE),
@@ -126,19 +127,19 @@ fn run<D: Spool, W: Write + Drop>(
     rt: &HostRuntime,
     mode: &[u8],
     spool: &mut D,
+    motion: &Motion,
     writer: W,
 ) -> Result<u8, NoMemory> {
     let nobody = Vec::new(rt.alloc());
-    let motion = Motion::new();
-    let mut floor = SystemFloor::new(*rt, b"".as_slice(), nobody, None, LIMITS, Some(&motion));
+    let mut floor = SystemFloor::new(*rt, b"".as_slice(), nobody, None, LIMITS, Some(motion));
     let outcome = sendmail(
         rt.alloc(),
         &words(rt, mode)?,
         &mut DiskFiles::new(rt),
         spool,
         &mut floor,
-        &mut SystemSpawner::new(*rt, &motion),
-        &mut SystemDialer::new(*rt, &motion, PATIENCE),
+        &mut SystemSpawner::new(*rt, motion),
+        &mut SystemDialer::new(*rt, motion, PATIENCE),
         &mut SystemClock::new(*rt),
         &mut InputStream::new(b"".as_slice()),
         &mut OutputStream::new(writer),
@@ -148,15 +149,19 @@ fn run<D: Spool, W: Write + Drop>(
 
 // Delivers what is in the queue, and gives the run's status.
 fn deliver(rt: &HostRuntime) -> Result<u8, NoMemory> {
-    let mut spool = QueueDirs::new(rt.alloc(), ROOT.as_bytes());
-    run(rt, b"-q", &mut spool, Vec::new(rt.alloc()))
+    let motion = Motion::late(rt.alloc(), Joint::none());
+    let mut spool = QueueDirs::new(rt.alloc(), ROOT.as_bytes(), &motion);
+    let status = run(rt, b"-q", &mut spool, &motion, Vec::new(rt.alloc()))?;
+    let settled = motion.unsynced().settle().is_ok();
+    Ok(if settled { status } else { 1 })
 }
 
 // How a listing of the queue ends, and whether it is this.
 fn shown(rt: &HostRuntime, wanted: &[u8]) -> Result<(u8, bool), Fail> {
     let (mut far_reader, writer) = io::pipe(rt)?;
     let mut spool = QueueView::new(rt.alloc(), ROOT.as_bytes());
-    let status = run(rt, b"-bp", &mut spool, writer)?;
+    let motion = Motion::new(rt.alloc());
+    let status = run(rt, b"-bp", &mut spool, &motion, writer)?;
     Ok((status, is_rest(rt, &mut far_reader, wanted)?))
 }
 

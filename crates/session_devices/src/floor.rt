@@ -3,19 +3,19 @@
 ghost use Rattle.std.specs.Prelude.{◌≡◌, ◌≤◌, IfOk, None, length};
 ghost use Rattle.link_edge.specs.Turns.{Fits};
 
-use crate::counting::counted;
 use crate::limits::Limits;
 use crate::port::Port;
 use crate::standard::{Standard, Wires};
-use delivery_devices::Motion;
 use link_edge::{Begun, Floor, Place, Turn};
 use mail_base::{Failed, Text};
+use shared_devices::{Motion, counted};
 use std::io;
 use std::io::{ErrorKind, Read, Write};
 
 /// One session on a reader and a writer, or, once it began at a port, many there. A floor at a port
 /// that shares what moves with the devices of deliveries waits while these work as long as they let
-/// it.
+/// it. What is sent behind a change of the queue waits until that is on the disk, which several
+/// sessions wait for together; a turn fails where it doesn't get there.
 pub struct SystemFloor<'a, R, W> {
     site: Site<'a, R, W>,
     begun: Begun,
@@ -29,6 +29,8 @@ struct Site<'a, R, W> {
     rt: HostRuntime,
     limits: Limits,
     motion: Option<&'a Motion>,
+    /// How many changes of the queue there were at the last turn.
+    changes: u64,
     standard: Standard<R, W>,
     port: Option<Port>,
 }
@@ -61,6 +63,7 @@ impl<'a, R: Read, W: Write> SystemFloor<'a, R, W> {
                 rt,
                 limits,
                 motion,
+                changes: 0,
                 standard: Standard::new(reader, writer, wires, limits.silence),
                 port: None,
             },
@@ -73,7 +76,12 @@ impl<'a, R: Read, W: Write> SystemFloor<'a, R, W> {
     /// Ends all sessions, and writes what waits, for a while.
     pub fn finish(&mut self) {
         let rt = self.site.rt;
+        let settled = settle(self.site.motion);
         if let Some(port) = &mut self.site.port {
+            match settled {
+                Ok(()) => port.release(),
+                Err(Failed) => port.drop_held(),
+            }
             // The run is over, and nobody is left to be told.
             let _ = port.finish(&rt);
         }
@@ -125,27 +133,27 @@ impl<R: Read, W: Write> Site<'_, R, W> {
         requires { 64 ≤ length buf.old }
         ensures { IfOk result (λ turn. Fits turn buf.new) }
     {
-        match &mut self.port {
-            None => self.standard.turn(buf),
-            Some(port) => {
-                if let Some(millis) = pause_of(self.motion) {
-                    port.hasten(millis);
-                }
-                match port.turn(&self.rt, buf) {
-                    Ok(turn) => {
-                        note(self.motion, turn);
-                        Ok(turn)
-                    }
-                    Err(_) => Err(Failed),
-                }
+        let turn = match &mut self.port {
+            None => {
+                settle(self.motion)?;
+                self.standard.turn(buf)?
             }
-        }
+            Some(port) => port_turn(&self.rt, port, self.motion, buf)?,
+        };
+        self.changes = changes_of(self.motion);
+        Ok(turn)
     }
 
     fn send(&mut self, session: u64, bytes: &Text) -> Result<(), Failed> {
         match &mut self.port {
-            None => self.standard.send(session, bytes),
-            Some(port) => port.send(session, bytes.bytes()),
+            None => {
+                settle(self.motion)?;
+                self.standard.send(session, bytes)
+            }
+            Some(port) => {
+                let is_held = changes_of(self.motion) != self.changes && !is_clear(self.motion);
+                port.send(session, bytes.bytes(), is_held)
+            }
         }
     }
 
@@ -180,6 +188,67 @@ impl<R: Read, W: Write> Floor for SystemFloor<'_, R, W> {
 
     fn hang_up(&mut self, session: u64) {
         self.site.hang_up(session);
+    }
+}
+
+// A turn at a port. What output waits for is brought to the disk before it, where it is due, and
+// behind it, where it brought nothing, so that no reply waits for a delivery.
+fn port_turn(
+    rt: &HostRuntime,
+    port: &mut Port,
+    motion: Option<&Motion>,
+    buf: &mut [u8],
+) -> Result<Turn, Failed>
+    requires { 64 ≤ length buf.old }
+    ensures { IfOk result (λ turn. Fits turn buf.new) }
+{
+    if port.is_due() || (port.is_held() && is_clear(motion)) {
+        bring(rt, port, motion)?;
+    }
+    if let Some(millis) = pause_of(motion) {
+        port.hasten(millis);
+    }
+    let turn = port.turn(rt, buf).map_err(|_| Failed)?;
+    note(motion, turn);
+    if matches!(turn, Turn::Idle | Turn::Stop) && (port.is_held() || port.is_still()) {
+        bring(rt, port, motion)?;
+    }
+    Ok(turn)
+}
+
+// Brings to the disk what was changed in the queue, and lets go what waits for it.
+fn bring(rt: &HostRuntime, port: &mut Port, motion: Option<&Motion>) -> Result<(), Failed> {
+    if !is_clear(motion) {
+        let begun = port.moment(rt).map_err(|_| Failed)?;
+        settle(motion)?;
+        let ended = port.moment(rt).map_err(|_| Failed)?;
+        port.note_pace(ended.saturating_sub(begun));
+    }
+    port.release();
+    Ok(())
+}
+
+// Brings to the disk what was changed in the queue.
+fn settle(motion: Option<&Motion>) -> Result<(), Failed> {
+    match motion {
+        Some(motion) => motion.unsynced().settle(),
+        None => Ok(()),
+    }
+}
+
+// Whether nothing of the queue waits for the disk.
+fn is_clear(motion: Option<&Motion>) -> bool {
+    match motion {
+        Some(motion) => motion.unsynced().is_clear(),
+        None => true,
+    }
+}
+
+// How many changes of the queue there were.
+fn changes_of(motion: Option<&Motion>) -> u64 {
+    match motion {
+        Some(motion) => motion.unsynced().changes(),
+        None => 0,
     }
 }
 

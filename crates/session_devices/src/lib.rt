@@ -4,7 +4,6 @@
 #![tactic(auto)]
 
 mod clock;
-mod counting;
 mod disk;
 mod floor;
 mod limits;

@@ -5,7 +5,7 @@
 pub struct Limits {
     /// How long a turn waits at most for something to come.
     pub wait: i32,
-    /// How many turns in a row may bring something. The next one is idle, since runners step then.
+    /// Behind how many turns that brought something one is idle, since runners step then.
     pub busy: u32,
     /// How long a session may bring nothing.
     pub silence: u64,
@@ -19,6 +19,8 @@ pub struct Limits {
     pub parting: usize,
     /// How long nobody is let in after there were no descriptors or no memory for one more.
     pub rest: u64,
+    /// How long output waits at most for the disk while other sessions bring something.
+    pub held: u64,
     /// How long what waits is written at the run's end.
     pub farewell: u64,
 }
@@ -33,5 +35,6 @@ pub const LIMITS: Limits = Limits {
     drain: 2000,
     parting: 64,
     rest: 1000,
+    held: 40,
     farewell: 2000,
 };

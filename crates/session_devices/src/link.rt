@@ -13,6 +13,8 @@ use std::os::fd::AsRawFd;
 pub struct Link {
     stream: TcpStream,
     waiting: Vec<u8>,
+    /// Whether they wait for the disk.
+    is_held: bool,
     /// When a byte last came or went, or the first of those that wait was put there.
     moved: u64,
 }
@@ -25,12 +27,23 @@ impl Link {
         Ok(Link {
             stream,
             waiting: Vec::new(alloc),
+            is_held: false,
             moved: now,
         })
     }
 
+    /// Its descriptor, or -1 while its bytes wait for the disk: then nothing is asked of it.
     pub fn descriptor(&self) -> i32 {
-        self.stream.as_raw_fd()
+        if self.is_held {
+            -1
+        } else {
+            self.stream.as_raw_fd()
+        }
+    }
+
+    /// Whether bytes wait for the disk.
+    pub fn is_held(&self) -> bool {
+        self.is_held
     }
 
     /// Whether bytes wait to go out.
@@ -51,13 +64,27 @@ impl Link {
     /// Sends bytes behind those that wait, as many as go now. The others wait, or it fails where
     /// more than so many would.
     pub fn send(&mut self, bytes: &[u8], now: u64, most: usize) -> Result<(), Failed> {
-        if self.is_waiting() {
+        if self.is_waiting() || self.is_held {
             self.keep(bytes, most)?;
             return self.flush(now);
         }
         self.moved = now;
         let count = write_some(&mut self.stream, bytes)?;
         self.keep(bytes.get(count..).unwrap_or(&[]), most)
+    }
+
+    /// Puts bytes behind those that wait, and all of them wait for the disk; or it fails where more
+    /// than so many would.
+    pub fn hold(&mut self, bytes: &[u8], most: usize) -> Result<(), Failed> {
+        self.is_held = true;
+        self.keep(bytes, most)
+    }
+
+    /// All is on the disk that its bytes waited for. It says whether they did.
+    pub fn release(&mut self) -> bool {
+        let was_held = self.is_held;
+        self.is_held = false;
+        was_held
     }
 
     // Puts bytes behind those that wait.
@@ -68,8 +95,11 @@ impl Link {
         self.waiting.extend_from_slice(bytes).map_err(|_| Failed)
     }
 
-    /// Writes as many of the bytes that wait as go now.
+    /// Writes as many of the bytes that wait as go now: none while they wait for the disk.
     pub fn flush(&mut self, now: u64) -> Result<(), Failed> {
+        if self.is_held {
+            return Ok(());
+        }
         let count = write_some(&mut self.stream, &self.waiting)?;
         let count = count.min(self.waiting.len());
         if count > 0 {

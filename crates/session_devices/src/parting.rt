@@ -27,8 +27,16 @@ impl Parting {
         &self.link
     }
 
+    /// All is on the disk that what waits had to wait for.
+    pub fn release(&mut self) {
+        self.link.release();
+    }
+
     /// Does what can be done now, and says whether it is over.
     pub fn is_over(&mut self, now: u64, limits: &Limits) -> bool {
+        if self.link.is_held() {
+            return false;
+        }
         if self.link.flush(now).is_err() {
             return true;
         }

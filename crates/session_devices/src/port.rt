@@ -25,6 +25,12 @@ const ENFILE: i32 = 23;
 
 const ENOBUFS: i32 = 105;
 
+/// How many milliseconds output waits for that of other sessions, however fast the disk is.
+const SHORT: u64 = 2;
+
+/// How many milliseconds a turn waits at most while runners work.
+const STILL: i32 = 5;
+
 /// A session with a peer.
 #[derive(Drop)]
 struct Session {
@@ -56,6 +62,10 @@ pub struct Port {
     busy: u32,
     /// Until when nobody is let in.
     rested: u64,
+    /// Since when output waits for the disk.
+    held: Option<u64>,
+    /// How long the disk last took.
+    pace: u64,
 }
 
 // Written out, since a caller's proof goes through the parts of a derived drop at each way out.
@@ -76,6 +86,8 @@ impl Drop for Port {
             wait: _,
             busy: _,
             rested: _,
+            held: _,
+            pace: _,
         } = self;
     }
 }
@@ -108,6 +120,8 @@ impl Port {
             wait: 0,
             busy: 0,
             rested: 0,
+            held: None,
+            pace: 0,
         })
     }
 
@@ -127,7 +141,8 @@ impl Port {
     }
 
     /// Waits a little for something to come, unless the turn before had something. Behind several
-    /// turns that brought something one is idle, whatever waits.
+    /// turns that brought something one is idle, whatever waits; while output waits for the disk
+    /// these are put off.
     pub fn turn(&mut self, rt: &HostRuntime, buf: &mut [u8]) -> io::Result<Turn>
         requires { 64 ≤ length buf.old }
         ensures { IfOk result (λ turn. Fits turn buf.new) }
@@ -135,8 +150,8 @@ impl Port {
         if self.most > 0 && self.closed >= self.most {
             return Ok(Turn::Stop);
         }
-        if self.busy >= self.limits.busy {
-            self.busy = 0;
+        if self.busy >= self.limits.busy && !self.is_held() {
+            self.busy = self.busy.saturating_sub(self.limits.busy.max(1));
             return Ok(Turn::Idle);
         }
         self.look(rt)?;
@@ -157,13 +172,71 @@ impl Port {
         }
     }
 
-    /// Sends bytes to a session: what doesn't go now waits, at most so many bytes.
-    pub fn send(&mut self, session: u64, bytes: &[u8]) -> Result<(), Failed> {
+    /// Sends bytes to a session: what doesn't go now waits, at most so many bytes. Where they rest
+    /// on what isn't on the disk they wait for that too, and all behind them.
+    pub fn send(&mut self, session: u64, bytes: &[u8], is_held: bool) -> Result<(), Failed> {
         let (now, most) = (self.now, self.limits.backlog);
-        match self.sessions.iter_mut().find(|open| open.number == session) {
-            Some(open) => open.link.send(bytes, now, most),
-            None => Err(Failed),
+        let Some(open) = self.sessions.iter_mut().find(|open| open.number == session) else {
+            return Err(Failed);
+        };
+        if is_held {
+            self.held = Some(self.held.unwrap_or(now));
+            open.link.hold(bytes, most)
+        } else {
+            open.link.send(bytes, now, most)
         }
+    }
+
+    /// Whether output waits for the disk longer than a few milliseconds, and four times as long as
+    /// the disk last took.
+    pub fn is_due(&self) -> bool {
+        let longest = self.pace.saturating_mul(4).max(SHORT).min(self.limits.held);
+        self.held
+            .is_some_and(|since| self.now.saturating_sub(since) > longest)
+    }
+
+    /// Whether nothing moves: several turns in a row brought nothing.
+    pub fn is_still(&self) -> bool {
+        self.wait > STILL
+    }
+
+    /// All is on the disk that output waits for: it goes out.
+    pub fn release(&mut self) {
+        if self.held.take().is_none() {
+            return;
+        }
+        let now = self.now;
+        for session in &mut self.sessions {
+            if session.link.release() {
+                // What fails is found when it is next looked.
+                let _ = session.link.flush(now);
+            }
+        }
+        for parting in &mut self.parting {
+            parting.release();
+        }
+    }
+
+    /// The sessions whose output waits for the disk end without it.
+    pub fn drop_held(&mut self) {
+        self.held = None;
+        self.sessions.retain(|session| !session.link.is_held());
+        self.parting.retain(|parting| !parting.link().is_held());
+    }
+
+    /// Whether output waits for the disk.
+    pub fn is_held(&self) -> bool {
+        self.held.is_some()
+    }
+
+    /// The moment, in milliseconds since the start.
+    pub fn moment(&self, rt: &HostRuntime) -> io::Result<u64> {
+        millis_since(rt, self.start)
+    }
+
+    /// Tells how many milliseconds the disk took.
+    pub fn note_pace(&mut self, millis: u64) {
+        self.pace = millis;
     }
 
     /// Ends a session. What waits is written in later turns.
@@ -196,7 +269,8 @@ impl Port {
     // Waits until something is ready or the time is up, and lets go of the sessions that are over.
     fn look(&mut self, rt: &HostRuntime) -> io::Result<()> {
         self.ask()?;
-        let ready = is_ready(&mut self.asked, self.wait);
+        let wait = self.patience();
+        let ready = is_ready(&mut self.asked, wait);
         self.now = millis_since(rt, self.start)?;
         let (now, limits) = (self.now, self.limits);
         self.parting
@@ -205,6 +279,18 @@ impl Port {
             Ok(_) => Ok(()),
             Err(Failed) => Err(io::Error::from(io::ErrorKind::Other)),
         }
+    }
+
+    // How long is waited for something to come: while output waits for a slow disk a little, unless
+    // all sessions wait for that.
+    fn patience(&self) -> i32 {
+        if !self.is_held() {
+            return self.wait;
+        }
+        if self.sessions.iter().all(|session| session.link.is_held()) {
+            return 0;
+        }
+        i32::try_from(self.pace.min(self.limits.held) / 4).unwrap_or(0)
     }
 
     // Makes the list of what is waited for: the listener, the sessions, and those that part.

@@ -2,9 +2,9 @@
 ghost use Rattle.std.specs.Prelude.{◌<◌, None, length};
 ghost use Rattle.std.specs.Io.{ReadsAtMost};
 
-use crate::counting::counted;
 use mail_base::Failed;
 use mail_edge::{Sink, Source};
+use shared_devices::counted;
 use std::io;
 use std::io::{ErrorKind, Read, Write};
 

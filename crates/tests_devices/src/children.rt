@@ -1,6 +1,7 @@
 use crate::times::lowest;
-use delivery_devices::{Motion, SystemSpawner};
+use delivery_devices::SystemSpawner;
 use mail_base::{Failed, NoMemory, Seq, Text};
+use shared_devices::Motion;
 use spawn_edge::Spawner;
 use std::alloc::Global;
 use std::net::TcpListener;
@@ -173,7 +174,7 @@ fn polled(spawner: &mut SystemSpawner<'_>, child: u64) -> End {
 }
 
 fn end_of(rt: &HostRuntime, run: &Run, much: &Text) -> End {
-    let motion = Motion::new();
+    let motion = Motion::new(rt.alloc());
     let mut spawner = SystemSpawner::new(*rt, &motion);
     match start(&mut spawner, rt.alloc(), run, much) {
         Ok(child) => polled(&mut spawner, child),
@@ -255,7 +256,7 @@ fn ends_many(rt: &HostRuntime, spawner: &mut SystemSpawner<'_>) -> bool {
 #[test]
 fn two_thousand_children_leave_nothing(rt: HostRuntime) -> Result<(), Fail> {
     let before = lowest(&rt)?;
-    let motion = Motion::new();
+    let motion = Motion::new(rt.alloc());
     let mut spawner = SystemSpawner::new(rt, &motion);
     assert!(rt; ends_many(&rt, &mut spawner));
     assert_eq!(rt; lowest(&rt)?, before);
@@ -308,7 +309,7 @@ fn ends_soon(rt: &HostRuntime, spawner: &mut SystemSpawner<'_>, child: u64) -> b
 
 #[test]
 fn the_floor_waits_once_for_all_children(rt: HostRuntime) -> Result<(), Fail> {
-    let motion = Motion::new();
+    let motion = Motion::new(rt.alloc());
     motion.note_floor();
     let mut spawner = SystemSpawner::new(rt, &motion);
     let none = Text::new(rt.alloc());

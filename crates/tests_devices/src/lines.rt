@@ -1,7 +1,8 @@
 use crate::times::lowest;
-use delivery_devices::{Motion, PATIENCE, Patience, SystemDialer};
+use delivery_devices::{PATIENCE, Patience, SystemDialer};
 use link_edge::{Dialer, Peer};
 use mail_base::{Failed, NoMemory, Text};
+use shared_devices::Motion;
 use std::alloc::Global;
 use std::io::{ErrorKind, Read, Write};
 use std::net::{Shutdown, TcpListener, TcpStream};
@@ -308,7 +309,7 @@ fn dial(dialer: &mut SystemDialer<'_>, peer: &Peer) -> io::Result<u64> {
 
 // The first step of a scene that doesn't go so, if there is one.
 fn wrong_step(rt: &HostRuntime, scene: &Scene) -> io::Result<Option<usize>> {
-    let motion = Motion::new();
+    let motion = Motion::new(rt.alloc());
     let far = Far::listen(rt, scene.at)?;
     let mut both = dialled(rt, &motion, &far, scene.patience)?;
     Ok(first_wrong(&mut both, scene.steps))
@@ -342,7 +343,7 @@ const NOBODY: &[&[u8]] = &[
 
 // Whether a dial fails.
 fn fails(rt: &HostRuntime, peer: &Peer) -> bool {
-    let motion = Motion::new();
+    let motion = Motion::new(rt.alloc());
     SystemDialer::new(*rt, &motion, SHORT).dial(peer) == Err(Failed)
 }
 
@@ -373,7 +374,7 @@ fn nobody_answers(rt: HostRuntime) -> Result<(), Fail> {
 
 // Whether a dial fails at last where a peer lets nobody in.
 fn is_crowded(rt: &HostRuntime, at: At) -> io::Result<bool> {
-    let motion = Motion::new();
+    let motion = Motion::new(rt.alloc());
     let far = Far::listen(rt, at)?;
     libc::net::listen(far.descriptor(), 0);
     let peer = far.peer(rt.alloc())?;
@@ -409,7 +410,7 @@ fn goes_once(both: &mut Both<'_>) -> bool {
 
 // Whether many lines go, one after another.
 fn many_go(rt: &HostRuntime, at: At) -> io::Result<bool> {
-    let motion = Motion::new();
+    let motion = Motion::new(rt.alloc());
     let far = Far::listen(rt, at)?;
     let peer = far.peer(rt.alloc())?;
     let mut both = dialled(rt, &motion, &far, PATIENCE)?;

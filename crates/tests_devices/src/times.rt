@@ -1,4 +1,5 @@
-use delivery_devices::{Motion, PATIENCE, Patience, haste_of};
+use delivery_devices::{PATIENCE, Patience, haste_of};
+use shared_devices::Motion;
 use std::fs::File;
 use std::io;
 use std::os::fd::AsRawFd;
@@ -37,7 +38,7 @@ fn haste_shortens_times(rt: HostRuntime) {
 
 #[test]
 fn what_moves_is_told_once(rt: HostRuntime) {
-    let motion = Motion::new();
+    let motion = Motion::new(rt.alloc());
     motion.note_work();
     assert!(rt; !motion.take_move());
     motion.note_move();

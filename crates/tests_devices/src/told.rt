@@ -1,9 +1,10 @@
 ghost use Rattle.std.specs.Prelude.{None};
 
-use delivery_devices::{Motion, Patience, SystemDialer, SystemSpawner};
+use delivery_devices::{Patience, SystemDialer, SystemSpawner};
 use link_edge::{Dialer, Floor, OneFloor, Peer, Place};
 use mail_base::{EdgeFault, Failed, Seq, Text, TryCopy};
 use mail_edge::{MemSink, MemSource};
+use shared_devices::Motion;
 use spawn_edge::Spawner;
 use spool_disk::Spool;
 use std::alloc::Global;
@@ -208,7 +209,7 @@ fn dial_nobody(rt: &HostRuntime, motion: &Motion, log: Log) -> Result<(), EdgeFa
 
 // Whether a program runs, and another and a peer fail.
 fn attempt(rt: &HostRuntime, log: Log) -> bool {
-    let motion = Motion::new();
+    let motion = Motion::new(rt.alloc());
     let mut spawner = Told::new(SystemSpawner::new(*rt, &motion), Some(log));
     run(rt, &mut spawner, b"/bin/true").is_ok()
         && run(rt, &mut spawner, b"/nowhere/program").is_err()
@@ -226,7 +227,7 @@ fn attempts_are_told(rt: HostRuntime) -> Result<(), Fail> {
 
 // Tells a hundred lines, each longer than a line may be.
 fn tell_much(rt: &HostRuntime, log: Log) {
-    let motion = Motion::new();
+    let motion = Motion::new(rt.alloc());
     let mut spawner = Told::new(SystemSpawner::new(*rt, &motion), Some(log));
     for _ in 0..100u32 {
         let _ = run(rt, &mut spawner, &[b'x'; 2000]);

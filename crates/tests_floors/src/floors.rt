@@ -1,8 +1,8 @@
-use delivery_devices::Motion;
 use link_edge::{Floor, Place, Turn};
 use mail_base::{NoMemory, Text};
 use mail_edge::Clock;
 use session_devices::{LIMITS, Limits, SystemClock, SystemFloor};
+use shared_devices::Motion;
 use std::io;
 use std::io::{ErrorKind, Read, Write};
 use std::net::TcpStream;
@@ -440,7 +440,7 @@ const SLOW: Limits = Limits {
 // Whether a hundred idle turns, between which a delivery works, take a few seconds at most, and one
 // for which a child lets it wait takes that long.
 fn hastens(rt: &HostRuntime) -> io::Result<bool> {
-    let motion = Motion::new();
+    let motion = Motion::new(rt.alloc());
     let writer = Vec::new(rt.alloc());
     let mut floor = SystemFloor::new(*rt, b"".as_slice(), writer, None, SLOW, Some(&motion));
     let start = Instant::now(rt)?;

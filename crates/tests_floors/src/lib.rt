@@ -4,6 +4,8 @@
 #[cfg(test)]
 mod floors;
 #[cfg(test)]
+mod held;
+#[cfg(test)]
 mod standard;
 #[cfg(test)]
 mod streams;

@@ -1,6 +1,7 @@
 use crate::queues::{Answer, Step, are_names, is_so, make_empty, wrong_step};
 use mail_base::{EdgeFault, Text};
 use queue_devices::{QueueDirs, QueueView};
+use shared_devices::Motion;
 use spool_disk::Spool;
 use std::alloc::Global;
 use std::fs;
@@ -82,7 +83,8 @@ fn sees_again(alloc: Global, view: &mut QueueView<'_>) -> Answer {
 #[test]
 fn a_view_serves_beside_the_owner_and_changes_nothing(rt: HostRuntime) -> Result<(), Fail> {
     make_empty(&rt, ROOT)?;
-    let mut owner = QueueDirs::new(rt.alloc(), ROOT.as_bytes());
+    let motion = Motion::new(rt.alloc());
+    let mut owner = QueueDirs::new(rt.alloc(), ROOT.as_bytes(), &motion);
     let made = [
         Step::Writes(b"dfw1", b"mail"),
         Step::Writes(b"qfw1", b"V1\n"),

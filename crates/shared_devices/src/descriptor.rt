@@ -1,7 +1,11 @@
 // Descriptors of the C library. Each call is made again where a signal interrupted it.
 use mail_base::Failed;
 
-/// An open file or directory. It is closed where it is dropped.
+/// The name of a file that is to lose it.
+const UNNAMED: &[u8; 20] = b"/tmp/sendmail-XXXXXX";
+
+/// An open file or directory, which no program that is started keeps open by itself. It is closed
+/// where it is dropped.
 pub struct Descriptor {
     fd: i32,
 }
@@ -40,6 +44,35 @@ impl Descriptor {
     /// Opens a file that is there for writing, as a device whose disk is full.
     pub fn to_change(path: &[u8]) -> Result<Descriptor, Failed> {
         opened(path, libc::O_WRONLY).map_err(|_| Failed)
+    }
+
+    /// Makes a file for reading and writing that has no name and is its owner's alone. It is gone
+    /// once nobody has it open.
+    pub fn unnamed() -> Result<Descriptor, Failed> {
+        let mut name = *UNNAMED;
+        let fd = os::create_temp(&mut name);
+        if fd < 0 {
+            return Err(Failed);
+        }
+        let made = Descriptor { fd };
+        if os::unlink(&name) != 0 {
+            return Err(Failed);
+        }
+        // Another number of the file, which programs that are started don't inherit.
+        match os::duplicate(made.fd) {
+            fd if fd >= 0 => Ok(Descriptor { fd }),
+            _ => Err(Failed),
+        }
+    }
+
+    /// Opens the file in which all that is written is lost, and which is empty.
+    pub fn null() -> Result<Descriptor, Failed> {
+        opened(b"/dev/null", libc::O_RDWR).map_err(|_| Failed)
+    }
+
+    /// Its number.
+    pub fn number(&self) -> i32 {
+        self.fd
     }
 
     /// Opens a directory, or answers the number of the error.
@@ -95,6 +128,12 @@ impl Descriptor {
         Err(Failed)
     }
 
+    /// Writes all of the bytes, and goes back to the first one.
+    pub fn fill(&self, bytes: &[u8]) -> Result<(), Failed> {
+        self.write_all(bytes)?;
+        self.rewind()
+    }
+
     /// Waits until all that it holds has reached the disk.
     pub fn sync(&self) -> Result<(), Failed> {
         for _ in 0..u64::MAX {
@@ -136,7 +175,7 @@ impl Descriptor {
         Err(Failed)
     }
 
-    /// Begins again with a directory's first name.
+    /// Begins again with a file's first byte, or a directory's first name.
     pub fn rewind(&self) -> Result<(), Failed> {
         match libc::lseek(self.fd, 0, libc::SEEK_SET) {
             0 => Ok(()),
