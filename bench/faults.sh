@@ -8,6 +8,8 @@
 set -euo pipefail
 . "$(dirname "$0")/session.sh"
 queue=/var/spool/mqueue
+# Each file is synced by itself.
+export SENDMAIL_SYNC=
 
 printf '%s\r\n' 'HELO c.example' 'MAIL FROM:<bob@c.example>' 'RCPT TO:<ann@mx.example>' DATA 'Subject: hi' '' hello . QUIT \
     > "$work/asked"
@@ -21,13 +23,17 @@ serve() {
 }
 
 # The numbers of the calls of a kind whose lines fit a pattern, without those before the first look at the configuration,
-# which are the loader's.
+# which are the loader's. Where a pattern asks for closes, those of files that were only read don't count.
 places() {
     serve -e trace="openat,$1"
     awk -v kind="$1" -v fits="$2" '
+        /^openat\(/ { fd = $0; sub(/.* = /, "", fd); made[fd + 0] = /O_CREAT/ }
         $0 ~ "^" kind "\\(" { count++ }
         /local\.cf/ { own = 1 }
-        own && $0 ~ "^" kind "\\(" && $0 ~ fits { print count }' "$work/calls"
+        own && $0 ~ "^" kind "\\(" && $0 ~ fits {
+            fd = $0; sub(/^[a-z0-9]*\(/, "", fd)
+            if (kind != "close" || fits == "." || made[fd + 0]) print count
+        }' "$work/calls"
 }
 
 failed() {

@@ -112,16 +112,16 @@ def receipts(table, servers, words, sizes=SIZES, besides="", least=1):
 @contextmanager
 def slowed(words, folder):
     """While it lasts, each sync of each server takes longer. Gives what the rows say of it."""
-    source = PLACE / "speed/slow.c"
-    Server.slow = folder / "slow.so"
-    micros = f"-DMICROS={int(words.slow * 1000)}L"
+    Server.slow, Server.slow_sync = folder / "slow.so", folder / "sync"
+    build = ["cc", "-O1", f"-DMICROS={int(words.slow * 1000)}L", "-o"]
     subprocess.run(
-        ["cc", "-shared", "-fPIC", "-O1", micros, "-o", Server.slow, source], check=True
+        [*build, Server.slow, "-shared", "-fPIC", PLACE / "speed/slow.c"], check=True
     )
+    subprocess.run([*build, Server.slow_sync, PLACE / "speed/slow_sync.c"], check=True)
     try:
         yield f", each sync {words.slow:g} ms longer"
     finally:
-        Server.slow = None
+        Server.slow = Server.slow_sync = None
 
 
 def slow_receipts(table, servers, words):

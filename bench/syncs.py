@@ -11,12 +11,13 @@ has no name yet), qf and sf (a control text, of an entry that waits or is finish
 directory of the queue:
 
 1. A file is *synced* where an fsync or fdatasync of it came back with 0 behind its last write, and
-   a name where an fsync of its directory did so behind its renaming. A sync that failed, or that
-   hasn't come back, is none.
+   a name where an fsync of its directory did so behind its renaming. A file is also synced where
+   a child that runs `sync` came back from a syncfs with 0. A sync that failed, or that hasn't come
+   back, is none.
 2. Before tf is renamed to qf, tf is synced, and df, if it was written.
 3. An entry *stands* where its df is synced, its tf was renamed to qf, and its name is synced.
 4. Before a final 250 (`250 2.0.0 ID`) is sent to a session, the entry ID stands.
-5. Before a child is started (vfork, clone3; execve in the child) or a peer is dialled (connect),
+5. Before a child is started (vfork, clone3), but for `sync`, or a peer is dialled (connect),
    the entry whose body was read last stands, with the control text that it has now: so whatever
    was recorded of it before can't be forgotten and tried again.
 6. Where a control text names a parent and its revision (a part of a message, a bounce, a warning),
@@ -55,8 +56,8 @@ from samples import wrong_samples  # noqa: E402
 from sites import BUILT, Site, Strange, is_heard, wait_for  # noqa: E402
 
 CALLS = (
-    "open,openat,creat,write,writev,pwrite64,fsync,fdatasync,rename,renameat,renameat2,unlink,"
-    "unlinkat,accept,accept4,connect,sendto,sendmsg,vfork,fork,clone,clone3,execve,execveat"
+    "open,openat,creat,write,writev,pwrite64,fsync,fdatasync,syncfs,rename,renameat,renameat2,"
+    "unlink,unlinkat,accept,accept4,connect,sendto,sendmsg,vfork,fork,clone,clone3,execve,execveat"
 )
 BOB = "bob@mx.example"
 # Whom the messages are for, in turn: four recipients go into one entry, more into several.
@@ -155,7 +156,7 @@ def tell(watch):
         for (other, trail), count in watch.trails.items():
             if other == step:
                 for call in trail:
-                    if call.startswith(("fsync", "fdatasync")):
+                    if call.startswith(("fsync", "fdatasync", "syncfs")):
                         kinds[call] += count
         told = ", ".join(f"{kind} {count / total:.2f}" for kind, count in sorted(kinds.items()))
         print(f"{step}: {total} times, {kinds.total() / total:.2f} syncs each: {told}")

@@ -115,7 +115,7 @@ def is_loaded(number, library):
 class Server:
     """What the three have in common."""
 
-    slow = None
+    slow = slow_sync = None
 
     def __init__(self, folder, box, peer):
         self.folder, self.box, self.peer, self.port = folder, box, peer, free_port()
@@ -151,8 +151,9 @@ class Server:
         return dict(os.environ)
 
     def surroundings(self):
-        """The environment, with the library of a slow disk where that is asked for."""
-        return self.environment() | ({"LD_PRELOAD": str(self.slow)} if self.slow else {})
+        """The environment, with what makes a disk slow, where that is asked for."""
+        slow = {"LD_PRELOAD": str(self.slow), "SENDMAIL_SYNC": str(self.slow_sync)}
+        return self.environment() | (slow if self.slow else {})
 
     @contextmanager
     def receiving(self):

@@ -12,6 +12,8 @@ HEAD = re.compile(r"V1\\nv(\d+)\\n(?:p(w\d{12}) (\d+)\\n)?")
 STARTS = ("vfork", "fork", "clone", "clone3")
 SENDS = ("sendto", "sendmsg", "write", "writev")
 SYNCS = ("fsync", "fdatasync")
+# The program that syncs a whole file system, which is no delivery.
+SYNC = re.compile(r'"[^"]*/sync", ')
 RENAMINGS = ("rename", "renameat", "renameat2")
 REMOVALS = ("unlink", "unlinkat")
 
@@ -48,7 +50,8 @@ class Watch:
 
     def __init__(self):
         self.entries, self.wrong = {}, []
-        self.main, self.number, self.read, self.is_starting = None, 0, None, False
+        self.main, self.number, self.read, self.started = None, 0, None, None
+        self.syncing = set()
         self.sessions, self.waiting = set(), {}
         self.counts, self.trails = Counter(), Counter()
 
@@ -56,10 +59,8 @@ class Watch:
         for self.number, begins, call in events(lines):
             self.main = self.main or call.pid
             if call.pid != self.main:
-                if begins and self.is_starting and call.name == "execve":
-                    self.start("a child's program")
+                self.help(begins, call)
                 continue
-            self.is_starting = begins and call.name in STARTS
             if begins:
                 self.begin(call)
             elif call.went_well():
@@ -67,6 +68,28 @@ class Watch:
         for entry in self.entries.values():
             self.close_step(entry)
         return self
+
+    def help(self, begins, call):
+        """A call of a child: its program, or the sync of a file system. What a start needs must be
+        so as it begins, but which program it is for is seen here."""
+        if begins and call.name == "execve" and self.started is not None:
+            if SYNC.match(call.words):
+                self.syncing.add(call.pid)
+            else:
+                self.counts["starts"] += 1
+                self.wrong += self.started
+            self.started = None
+        elif call.name == "syncfs" and call.pid in self.syncing and not begins:
+            if call.went_well():
+                self.sync_all()
+
+    def sync_all(self):
+        """All files that were written are synced. That is counted for the last of them."""
+        waited = [it for it in self.entries.values() if it.body_waits or it.draft_waits]
+        for entry in waited:
+            entry.body_waits = entry.draft_waits = False
+        for entry in waited[-1:]:
+            entry.trail.append("syncfs")
 
     def fail(self, text):
         self.wrong.append(f"line {self.number}: {text}")
@@ -88,8 +111,9 @@ class Watch:
     def begin(self, call):
         """What a call needs must be so as it begins."""
         if call.name in STARTS:
-            self.counts["starts"] += 1
+            wrong, self.wrong = self.wrong, []
             self.start("a child's start")
+            self.started, self.wrong = self.wrong, wrong
         elif call.name == "connect":
             self.counts["dials"] += 1
             self.start("a dial")

@@ -10,6 +10,7 @@ QUEUE = "/queue"
 ONE, TWO = "w000000000001", "w000000000002"
 HEADS = {ONE: "V1\\nv1\\ngmqueue\\n", TWO: f"V1\\nv1\\np{ONE} 1\\ngmqueue\\n"}
 SESSION = "5<socket:[21]>"
+START = "clone3({flags=CLONE_VM|CLONE_VFORK, exit_signal=SIGCHLD}, 88) = 12"
 
 
 def made(name, descriptor):
@@ -55,7 +56,8 @@ def sample():
     final = f"250 2.0.0 {ONE} Message accepted for delivery\\r\\n"
     lines["final 250"] = f'sendto({SESSION}, "{final}", 55, 0, NULL, 0) = 55'
     lines |= read(ONE, "message")
-    lines["start"] = "clone3({flags=CLONE_VM|CLONE_VFORK, exit_signal=SIGCHLD}, 88) = 12"
+    lines["start"] = START
+    lines["program"] = '12 execve("/bin/true", ["true"], 0x7ff /* 1 var */) = 0'
     lines |= file_lines(f"tf{ONE}", "V1\\nv2\\ngmqueue\\n", "record control")
     lines |= name_lines(f"tf{ONE}", f"qf{ONE}", "record")
     lines |= name_lines(f"qf{ONE}", f"sf{ONE}", "finish")
@@ -86,6 +88,14 @@ WITHOUT = {
     ("part read",): None,
 }
 OTHER = f'openat(AT_FDCWD</>, "/other/df{TWO}", O_WRONLY|O_CREAT|O_EXCL, 0600) = 6</other/df{TWO}>'
+# What must be said where a sync of the file system stands in place of the first of these lines, and
+# the others are taken out: one that went well, one that failed, and one that never was.
+JOINT = ("message body synced", "message control synced", "part body synced", "part control synced")
+SYNCFS = {
+    f"13 syncfs(3<{QUEUE}>) = 0": None,
+    f"13 syncfs(3<{QUEUE}>) = -1 EIO (Input/output error)": "comes before the sync of df",
+    "13 close(3) = 0": "comes before the sync of df",
+}
 # Whether a change in another directory may come at the end where these are taken out.
 ELSEWHERE = {
     (): True,
@@ -105,8 +115,25 @@ AHEAD = {
 
 
 def said_of(lines):
-    """What is wrong of these lines, in which one process makes every call."""
-    return Watch().go_through(f"11 {line}" for line in lines).wrong
+    """What is wrong of these lines, where one process makes each call that names no other."""
+    whole = (line if line[:1].isdigit() else f"11 {line}" for line in lines)
+    return Watch().go_through(whole).wrong
+
+
+def joint(call):
+    """The record with a sync of the file system behind both messages, before any is renamed."""
+    lines = {key: line for key, line in sample().items() if key not in JOINT}
+    keys = [key for key in lines if key.startswith(("part", "message")) and key != "part read"]
+    names = [key for key in keys if key.endswith(("named", "directory"))]
+    for key in lines:
+        if key == "part named":
+            yield from (lines[it] for it in keys if it not in names and it != "message read")
+            yield START.replace("12", "13")
+            yield '13 execve("/bin/sync", ["sync", "-f", "q"], 0x7ff /* 1 var */) = 0'
+            yield call
+            yield from (lines[it] for it in names)
+        elif key not in keys or key == "message read":
+            yield lines[key]
 
 
 def wrong_samples():
@@ -114,6 +141,10 @@ def wrong_samples():
     lines = sample()
     if said := said_of(lines.values()):
         yield f"the whole sample: {said}"
+    for call, wanted in SYNCFS.items():
+        said = said_of(joint(call))
+        if bool(said) != bool(wanted) or wanted and not any(wanted in text for text in said):
+            yield f"with {call}: {said}"
     for names, wanted in WITHOUT.items():
         said = said_of(line for key, line in lines.items() if key not in names)
         if bool(said) != bool(wanted) or wanted and not any(wanted in text for text in said):
