@@ -402,7 +402,7 @@ const LATE_SCENES: &[LateScene] = &[
         ],
     },
     LateScene {
-        name: "a part's text comes behind that of another part and before the first one's",
+        name: "a part and its first part get their names",
         pace: Pace::Late,
         steps: &[
             Late::Does(Step::Writes(b"tfw000000000002", b"V1\nv1\npw000000000001 1\n")),
