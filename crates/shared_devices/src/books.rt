@@ -81,10 +81,6 @@ impl Books {
         self.changes
     }
 
-    pub fn is_broken(&self) -> bool {
-        self.is_broken
-    }
-
     /// Whether nothing waits but what tidied.
     pub fn is_clear(&self) -> bool {
         self.files.is_empty() && self.renames.is_empty() && self.tidies.is_empty()

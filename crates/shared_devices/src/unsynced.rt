@@ -51,14 +51,6 @@ impl Unsynced {
         }
     }
 
-    /// Whether something that was told as done came to nothing.
-    pub fn is_broken(&self) -> bool {
-        match self.books.try_borrow() {
-            Ok(books) => books.is_broken(),
-            Err(_) => true,
-        }
-    }
-
     /// Adds a directory that is open, and gives its place.
     pub fn add_dir(&self, path: Text, open: Descriptor) -> Result<usize, EdgeFault> {
         match self.books.try_borrow_mut() {
