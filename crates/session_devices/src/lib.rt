@@ -6,8 +6,10 @@
 mod clock;
 mod disk;
 mod floor;
+mod gathering;
 mod limits;
 mod link;
+mod listening;
 mod parting;
 mod peer;
 mod port;

@@ -16,11 +16,17 @@ pub struct Parting {
     link: Link,
     /// Until when it is drained, where all is written.
     until: Option<u64>,
+    /// Whether something was there when it was last looked.
+    is_ready: bool,
 }
 
 impl Parting {
     pub fn new(link: Link) -> Parting {
-        Parting { link, until: None }
+        Parting {
+            link,
+            until: None,
+            is_ready: false,
+        }
     }
 
     pub fn link(&self) -> &Link {
@@ -30,6 +36,11 @@ impl Parting {
     /// All is on the disk that what waits had to wait for.
     pub fn release(&mut self) {
         self.link.release();
+    }
+
+    /// Tells whether something is there.
+    pub fn note_ready(&mut self, is_ready: bool) {
+        self.is_ready = is_ready;
     }
 
     /// Does what can be done now, and says whether it is over.
@@ -43,13 +54,17 @@ impl Parting {
         if self.link.is_waiting() {
             return self.link.stillness(now) > limits.stall;
         }
-        match self.until {
-            Some(until) => now >= until || self.drain(now),
+        let until = match self.until {
+            Some(until) => until,
             None => {
-                self.until = Some(now.saturating_add(limits.drain));
-                self.link.finish().is_err()
+                if self.link.finish().is_err() {
+                    return true;
+                }
+                now.saturating_add(limits.drain)
             }
-        }
+        };
+        self.until = Some(until);
+        now >= until || (self.is_ready && self.drain(now))
     }
 
     // Drops what came, and says whether nothing comes any more.

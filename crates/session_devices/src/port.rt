@@ -2,31 +2,25 @@
 ghost use Rattle.std.specs.Prelude.{◌≡◌, ◌≤◌, IfOk, IfSome, length};
 ghost use Rattle.link_edge.specs.Turns.{Fits};
 
+use crate::gathering::Gathering;
 use crate::limits::Limits;
 use crate::link::Link;
+use crate::listening::{is_over, lacks_room, listen};
 use crate::parting::Parting;
 use crate::peer::put_peer;
-use crate::waiting::{asking, is_ready};
+use crate::waiting::{asking, is_ready, longer, millis_since};
 use libc::net::POLLIN;
 use libc::types::pollfd;
 use link_edge::Turn;
 use mail_base::Failed;
 use std::alloc::Global;
 use std::io;
-use std::net::{IpAddr, Net, SocketAddr, TcpListener, TcpStream};
+use std::net::{IpAddr, SocketAddr, TcpListener, TcpStream};
 use std::os::fd::AsRawFd;
 use std::time::Instant;
 
 /// What a session that was silent for too long is told.
 pub const SILENT: &[u8] = b"421 4.4.2 Nothing came for too long, closing connection\r\n";
-
-/// The errors of the system for want of descriptors, of all processes, and of room for a socket.
-const ENFILE: i32 = 23;
-
-const ENOBUFS: i32 = 105;
-
-/// How many milliseconds output waits for that of other sessions, however fast the disk is.
-const SHORT: u64 = 2;
 
 /// How many milliseconds a turn waits at most while runners work.
 const STILL: i32 = 5;
@@ -46,6 +40,7 @@ pub struct Port {
     limits: Limits,
     sessions: Vec<Session>,
     parting: Vec<Parting>,
+    /// What was looked for last, the listener first, and what of it was found and isn't served.
     asked: Vec<pollfd>,
     /// The place that is looked at first: 0 is the listener, and each other the session before it.
     first: usize,
@@ -62,10 +57,8 @@ pub struct Port {
     busy: u32,
     /// Until when nobody is let in.
     rested: u64,
-    /// Since when output waits for the disk.
-    held: Option<u64>,
-    /// How long the disk last took.
-    pace: u64,
+    /// The output that waits for the disk.
+    held: Gathering,
 }
 
 // Written out, since a caller's proof goes through the parts of a derived drop at each way out.
@@ -87,7 +80,6 @@ impl Drop for Port {
             busy: _,
             rested: _,
             held: _,
-            pace: _,
         } = self;
     }
 }
@@ -120,8 +112,7 @@ impl Port {
             wait: 0,
             busy: 0,
             rested: 0,
-            held: None,
-            pace: 0,
+            held: Gathering::new(),
         })
     }
 
@@ -140,9 +131,10 @@ impl Port {
         self.wait = i32::try_from(millis).unwrap_or(0);
     }
 
-    /// Waits a little for something to come, unless the turn before had something. Behind several
-    /// turns that brought something one is idle, whatever waits; while output waits for the disk
-    /// these are put off.
+    /// What one of those brings that were ready when it was last looked. Where none of them is left
+    /// it is looked again, and waited a little for something to come, unless the turn before had
+    /// something. Behind several turns that brought something one is idle, whatever waits; while
+    /// output waits for the disk these are put off.
     pub fn turn(&mut self, rt: &HostRuntime, buf: &mut [u8]) -> io::Result<Turn>
         requires { 64 ≤ length buf.old }
         ensures { IfOk result (λ turn. Fits turn buf.new) }
@@ -154,11 +146,16 @@ impl Port {
             self.busy = self.busy.saturating_sub(self.limits.busy.max(1));
             return Ok(Turn::Idle);
         }
-        self.look(rt)?;
-        if let Some(session) = self.end_overdue() {
-            return Ok(Turn::Closed(session));
+        self.now = millis_since(rt, self.start)?;
+        let mut turn = self.serve(rt.alloc(), buf)?;
+        if turn.is_none() {
+            self.look(rt)?;
+            if let Some(session) = self.end_overdue() {
+                return Ok(Turn::Closed(session));
+            }
+            turn = self.serve(rt.alloc(), buf)?;
         }
-        match self.serve(rt.alloc(), buf)? {
+        match turn {
             Some(turn) => {
                 self.wait = 0;
                 self.busy = self.busy.saturating_add(1);
@@ -180,19 +177,16 @@ impl Port {
             return Err(Failed);
         };
         if is_held {
-            self.held = Some(self.held.unwrap_or(now));
+            self.held.begin(now);
             open.link.hold(bytes, most)
         } else {
             open.link.send(bytes, now, most)
         }
     }
 
-    /// Whether output waits for the disk longer than a few milliseconds, and four times as long as
-    /// the disk last took.
+    /// Whether output waits for the disk long enough.
     pub fn is_due(&self) -> bool {
-        let longest = self.pace.saturating_mul(4).max(SHORT).min(self.limits.held);
-        self.held
-            .is_some_and(|since| self.now.saturating_sub(since) > longest)
+        self.held.is_due(self.now, self.limits.held)
     }
 
     /// Whether nothing moves: several turns in a row brought nothing.
@@ -202,7 +196,7 @@ impl Port {
 
     /// All is on the disk that output waits for: it goes out.
     pub fn release(&mut self) {
-        if self.held.take().is_none() {
+        if !self.held.end() {
             return;
         }
         let now = self.now;
@@ -219,14 +213,14 @@ impl Port {
 
     /// The sessions whose output waits for the disk end without it.
     pub fn drop_held(&mut self) {
-        self.held = None;
+        self.held.end();
         self.sessions.retain(|session| !session.link.is_held());
         self.parting.retain(|parting| !parting.link().is_held());
     }
 
     /// Whether output waits for the disk.
     pub fn is_held(&self) -> bool {
-        self.held.is_some()
+        self.held.is_there()
     }
 
     /// The moment, in milliseconds since the start.
@@ -236,7 +230,7 @@ impl Port {
 
     /// Tells how many milliseconds the disk took.
     pub fn note_pace(&mut self, millis: u64) {
-        self.pace = millis;
+        self.held.note_pace(millis);
     }
 
     /// Ends a session. What waits is written in later turns.
@@ -272,13 +266,25 @@ impl Port {
         let wait = self.patience();
         let ready = is_ready(&mut self.asked, wait);
         self.now = millis_since(rt, self.start)?;
-        let (now, limits) = (self.now, self.limits);
-        self.parting
-            .retain_mut(|parting| !parting.is_over(now, &limits));
+        self.let_go();
         match ready {
             Ok(_) => Ok(()),
             Err(Failed) => Err(io::Error::from(io::ErrorKind::Other)),
         }
+    }
+
+    // Lets go of the sessions that part and are over, and leaves those in the list that may be
+    // served.
+    fn let_go(&mut self) {
+        let first = self.sessions.len().saturating_add(1);
+        for (at, parting) in self.parting.iter_mut().enumerate() {
+            let asked = self.asked.get(first.saturating_add(at));
+            parting.note_ready(asked.is_some_and(|asked| asked.revents != 0));
+        }
+        let (now, limits) = (self.now, self.limits);
+        self.parting
+            .retain_mut(|parting| !parting.is_over(now, &limits));
+        self.asked.truncate(first);
     }
 
     // How long is waited for something to come: while output waits for a slow disk a little, unless
@@ -290,7 +296,7 @@ impl Port {
         if self.sessions.iter().all(|session| session.link.is_held()) {
             return 0;
         }
-        i32::try_from(self.pace.min(self.limits.held) / 4).unwrap_or(0)
+        self.held.patience(self.limits.held)
     }
 
     // Makes the list of what is waited for: the listener, the sessions, and those that part.
@@ -346,22 +352,35 @@ impl Port {
         session.link.stillness(self.now) > longest && !self.is_ready(place.saturating_add(1))
     }
 
-    // What is at the first place that has something.
+    // What is at the first place that was ready and has something.
     fn serve(&mut self, alloc: Global, buf: &mut [u8]) -> io::Result<Option<Turn>>
         requires { 64 ≤ length buf.old }
-        ensures { IfOk result (λ turn. IfSome turn (λ turn. Fits turn buf.new)) }
+        ensures room { length buf.new ≡ length buf.old }
+        ensures fits { IfOk result (λ turn. IfSome turn (λ turn. Fits turn buf.new)) }
     {
         let places = self.sessions.len().saturating_add(1);
         for step in 0..places {
             let place = turned(self.first, step, places);
             if self.is_ready(place) {
                 self.first = place.saturating_add(1);
-                if let Some(turn) = self.serve_place(alloc, place, buf)? {
-                    return Ok(Some(turn));
+                let turn = self.serve_place(alloc, place, buf)?;
+                // More may wait at the listener.
+                if place > 0 || turn.is_none() {
+                    self.note_served(place);
+                }
+                if turn.is_some() {
+                    return Ok(turn);
                 }
             }
         }
         Ok(None)
+    }
+
+    // Until it is looked again, nothing is at that place.
+    fn note_served(&mut self, place: usize) {
+        if let Some(asked) = self.asked.get_mut(place) {
+            asked.revents = 0;
+        }
     }
 
     // What is at a place that is ready, or `None` where there is nothing after all.
@@ -389,14 +408,13 @@ impl Port {
     {
         match self.listener.accept() {
             Ok((stream, peer)) => Ok(self.open(alloc, stream, peer.ip(), buf)),
-            Err(error) => match error.raw_os_error() {
-                Some(libc::EBADF | libc::EINVAL | libc::ENOTSOCK) => Err(error),
-                Some(libc::EMFILE | ENFILE | ENOBUFS | libc::ENOMEM) => {
+            Err(error) if is_over(&error) => Err(error),
+            Err(error) => {
+                if lacks_room(&error) {
                     self.rested = self.now.saturating_add(self.limits.rest);
-                    Ok(None)
                 }
-                _ => Ok(None),
-            },
+                Ok(None)
+            }
         }
     }
 
@@ -455,9 +473,10 @@ impl Port {
         Some(Turn::Closed(number))
     }
 
-    // Lets the session at a place go.
+    // Lets the session at a place go. The others have other places then, so that it is looked again.
     fn close(&mut self, place: usize) {
         if place < self.sessions.len() {
+            self.asked.clear();
             self.sessions.remove(place);
             self.closed = self.closed.saturating_add(1);
         }
@@ -466,42 +485,13 @@ impl Port {
     // Puts the session at a place among those that part. With no memory for that it ends at once.
     fn part(&mut self, place: usize) {
         if place < self.sessions.len() {
+            self.asked.clear();
             let Session { number: _, link } = self.sessions.remove(place);
             self.closed = self.closed.saturating_add(1);
             // Without room it parts at once.
             let _ = self.parting.push(Parting::new(link));
         }
     }
-}
-
-// A listener; where all addresses are meant and there are none of IPv6, it listens at those of
-// IPv4.
-fn listen(rt: &HostRuntime, address: &str, port: u16) -> io::Result<TcpListener> {
-    if !address.is_empty() && address != "::" {
-        return TcpListener::bind(rt, (address, port));
-    }
-    match TcpListener::bind(rt, ("::", port)) {
-        Ok(listener) => Ok(listener),
-        Err(error) if lacks_family(&error) => TcpListener::bind(rt, ("0.0.0.0", port)),
-        Err(error) => Err(error),
-    }
-}
-
-// Whether the machine has no addresses of that kind.
-fn lacks_family(error: &io::Error) -> bool {
-    matches!(
-        error.raw_os_error(),
-        Some(libc::EAFNOSUPPORT | libc::EADDRNOTAVAIL)
-    )
-}
-
-fn millis_since(rt: &HostRuntime, start: Instant) -> io::Result<u64> {
-    Ok(u64::try_from(start.elapsed(rt)?.as_millis()).unwrap_or(u64::MAX))
-}
-
-// How long is waited where nothing came: more each time, up to the longest.
-fn longer(wait: i32, longest: i32) -> i32 {
-    wait.saturating_mul(2).saturating_add(1).min(longest)
 }
 
 // The place so many steps behind the first one, of so many places in a ring.
