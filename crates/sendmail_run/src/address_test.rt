@@ -25,7 +25,7 @@ pub const MOST_INPUT: u64 = 1 << 32;
 
 /// The most bytes that are taken at once. What they are answered with is gathered, and written by
 /// one call.
-const INPUT_PIECE: usize = 8_192;
+const INPUT_PIECE: usize = 2_048;
 
 /// How address test mode ends.
 #[derive(Clone, Copy)]
