@@ -22,6 +22,8 @@ import time
 from collections import defaultdict
 
 KINDS = ("proofs", "tests", "edits")
+# The seconds of a processor above which a crate has a row of its own.
+DEAR = 300
 TICK = os.sysconf("SC_CLK_TCK")
 TOP = os.path.dirname(os.path.dirname(os.path.abspath(__file__)))
 PAGE = f"{TOP}/docs/proving/COSTS.md"
@@ -108,14 +110,15 @@ def page(crates, clock, spent, said):
     rows += [["the rest", minutes(spent - sum(sums.values()))], ["**all**", minutes(spent)]]
     rows += [["**by the clock**", minutes(clock)]]
     dearest = [
-        [crate, *(f"{of[kind]:.0f}" for kind in KINDS)]
+        [crate, *(minutes(of[kind]) for kind in KINDS)]
         for crate, of in sorted(crates.items(), key=lambda it: -sum(it[1].values()))
+        if sum(of.values()) > DEAR
     ]
     day = datetime.date.today().strftime("%-d %B %Y")
     return (
         f"{machine()}; {day}; commit `{commit.stdout.strip()}`, {how}: `{said.splitlines()[-1]}`.\n\n"
         + table(["Of the gate", "Processor minutes"], rows)
-        + "\nProcessor seconds of each crate:\n\n"
+        + f"\nThe crates that take more than {DEAR // 60}:\n\n"
         + table(["Crate", *KINDS], dearest)
     )
 

@@ -177,8 +177,8 @@ def loaded():
 
 
 def answers(server, config, lines):
-    """The seconds that address test mode takes for so many lines, and in another run of it its
-    greatest memory in KiB."""
+    """The seconds that address test mode takes for so many lines, and in another run of it what
+    it has of the machine's memory behind them, in KiB."""
     quiet = {"stdout": subprocess.DEVNULL, "stderr": subprocess.DEVNULL}
     quiet |= {"env": server.environment(), "stdin": subprocess.PIPE}
     asked, ends = b"3,0 user@host.example\n" * lines, []
@@ -188,26 +188,25 @@ def answers(server, config, lines):
             run.stdin.write(asked)
             run.stdin.flush()
             if ends:
-                greatest = most_of(run)
+                has = memory_of(run)
             run.stdin.close()
             run.wait(MOST)
         if run.returncode:
             raise Strange(f"-bt of {server.name} ends with status {run.returncode}")
         ends.append(time.monotonic() - begun)
-    return ends[0], greatest
+    return ends[0], has
 
 
-def most_of(run):
-    """The greatest memory so far of a program that has answered all that it was asked: it sleeps,
-    and does nothing meanwhile."""
+def memory_of(run):
+    """The memory of a program that has answered all that it was asked: it sleeps, and does nothing
+    meanwhile."""
     before = None
     while True:
         time.sleep(0.2)
         fields = Path(f"/proc/{run.pid}/stat").read_text().rpartition(")")[2].split()
         state, spent = fields[0], fields[11:13]
         if state == "S" and spent == before:
-            text = Path(f"/proc/{run.pid}/status").read_text()
-            return int(text.partition("VmHWM:")[2].split()[0])
+            return memory(run)
         before = spent
 
 
