@@ -28,6 +28,10 @@ class Entry:
     body_waits: bool = False
     draft_waits: bool = False
     name_waits: bool = False
+    # The lines behind which body, draft and name wait.
+    body_at: int = 0
+    draft_at: int = 0
+    name_at: int = 0
     has_control: bool = False
     version: int = 0
     parent: tuple = None
@@ -51,7 +55,7 @@ class Watch:
     def __init__(self):
         self.entries, self.wrong = {}, []
         self.main, self.number, self.read, self.started = None, 0, None, None
-        self.syncing = set()
+        self.syncing, self.flying = set(), {}
         self.sessions, self.waiting = set(), {}
         self.counts, self.trails = Counter(), Counter()
 
@@ -79,15 +83,30 @@ class Watch:
                 self.counts["starts"] += 1
                 self.wrong += self.started
             self.started = None
-        elif call.name == "syncfs" and call.pid in self.syncing and not begins:
-            if call.went_well():
-                self.sync_all()
+        elif call.name == "syncfs" and call.pid in self.syncing:
+            if begins:
+                self.flying[call.pid] = self.number
+            elif call.went_well():
+                self.sync_all(self.flying.pop(call.pid))
 
-    def sync_all(self):
-        """All files that were written are synced. That is counted for the last of them."""
-        waited = [it for it in self.entries.values() if it.body_waits or it.draft_waits]
-        for entry in waited:
-            entry.body_waits = entry.draft_waits = False
+    def sync_all(self, begun):
+        """All is synced that was written, and each name that changed, before that line. It is
+        counted for the last of them."""
+        waited = []
+        for entry in self.entries.values():
+            body = entry.body_waits and entry.body_at < begun
+            draft = entry.draft_waits and entry.draft_at < begun
+            entry.body_waits &= not body
+            entry.draft_waits &= not draft
+            waited += [entry] if body or draft else []
+        for place in [*self.waiting]:
+            names = [it for it in self.waiting[place].values() if it.name_at < begun]
+            for entry in names:
+                entry.name_waits = False
+                del self.waiting[place][entry.name]
+            if not self.waiting[place]:
+                del self.waiting[place]
+            waited += names
         for entry in waited[-1:]:
             entry.trail.append("syncfs")
 
@@ -189,11 +208,12 @@ class Watch:
         entry = self.entry(place[3])
         if "O_CREAT" in call.words:
             if place[2] == "df":
-                entry.is_new, entry.body_waits = True, True
+                entry.is_new, entry.body_waits, entry.body_at = True, True, self.number
                 self.open_step(entry, "receipt")
             elif entry.has_control or not entry.is_new:
                 self.open_step(entry, "record")
-            entry.draft_waits |= place[2] == "tf"
+            if place[2] == "tf":
+                entry.draft_waits, entry.draft_at = True, self.number
             entry.trail.append(f"makes {place[2]}")
         elif place[2] == "df":
             self.read = place[3]
@@ -204,9 +224,9 @@ class Watch:
             return
         entry = self.entry(place[3])
         if place[2] == "df":
-            entry.body_waits = True
+            entry.body_waits, entry.body_at = True, self.number
         else:
-            entry.draft_waits = True
+            entry.draft_waits, entry.draft_at = True, self.number
             if head := HEAD.match(call.texts()[0][0]):
                 entry.version = int(head[1])
                 entry.parent = (head[2], int(head[3])) if head[2] else None
@@ -232,6 +252,7 @@ class Watch:
     def wait(self, place, entry):
         """A name in a directory changed, whose sync is waited for. A sync that covers several is
         made for the last of them."""
+        entry.name_at = self.number
         waits = self.waiting.setdefault(place[1], {})
         waits.pop(entry.name, None)
         waits[entry.name] = entry

@@ -96,6 +96,10 @@ SYNCFS = {
     f"13 syncfs(3<{QUEUE}>) = -1 EIO (Input/output error)": "comes before the sync of df",
     "13 close(3) = 0": "comes before the sync of df",
 }
+# What must be said where one begins before the files are written whose syncs it stands for, and ends
+# behind them; and where it stands for the sync of the directory, behind the renaming or before it.
+EARLY = "comes before the sync of df"
+NAMED = {True: None, False: "before the sync of the directory"}
 # Whether a change in another directory may come at the end where these are taken out.
 ELSEWHERE = {
     (): True,
@@ -136,6 +140,27 @@ def joint(call):
             yield lines[key]
 
 
+def began():
+    """A child that syncs file systems, up to its call."""
+    yield START.replace("12", "13")
+    yield '13 execve("/bin/sync", ["sync", "-f", "q"], 0x7ff /* 1 var */) = 0'
+
+
+def early():
+    """The record with such a call that begins before anything is written, and ends in time."""
+    lines = joint("13 <... syncfs resumed>) = 0")
+    return [*began(), f"13 syncfs(3<{QUEUE}> <unfinished ...>", *lines]
+
+
+def named(is_behind):
+    """The record with such a call in place of the syncs of the directory behind the message."""
+    lines = sample()
+    keys = [key for key in lines if key != "message directory"]
+    place = keys.index("message named") + is_behind
+    call = [*began(), f"13 syncfs(3<{QUEUE}>) = 0"]
+    return [lines[it] for it in keys[:place]] + call + [lines[it] for it in keys[place:]]
+
+
 def wrong_samples():
     """Where the script itself isn't as it must be."""
     lines = sample()
@@ -145,6 +170,12 @@ def wrong_samples():
         said = said_of(joint(call))
         if bool(said) != bool(wanted) or wanted and not any(wanted in text for text in said):
             yield f"with {call}: {said}"
+    if not any(EARLY in text for text in said_of(early())):
+        yield f"a sync that begins too early: {said_of(early())}"
+    for is_behind, wanted in NAMED.items():
+        said = said_of(named(is_behind))
+        if bool(said) != bool(wanted) or wanted and not any(wanted in text for text in said):
+            yield f"a name synced with all, {is_behind}: {said}"
     for names, wanted in WITHOUT.items():
         said = said_of(line for key, line in lines.items() if key not in names)
         if bool(said) != bool(wanted) or wanted and not any(wanted in text for text in said):
