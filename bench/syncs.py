@@ -11,9 +11,9 @@ has no name yet), qf and sf (a control text, of an entry that waits or is finish
 directory of the queue:
 
 1. A file is *synced* where an fsync or fdatasync of it came back with 0 behind its last write, and
-   a name where an fsync of its directory did so behind its renaming. A file is also synced where
-   a child that runs `sync` came back with 0 from a syncfs that began behind it, and so is a name. A
-   sync that failed, or that hasn't come back, is none.
+   a name where an fsync of its directory did so behind its renaming; both also where a child that
+   runs `sync` came back with 0 from a syncfs that began behind that. A sync that failed, or that
+   hasn't come back, is none.
 2. Before tf is renamed to qf, tf is synced, and df, if it was written.
 3. An entry *stands* where its df is synced, its tf was renamed to qf, and its name is synced.
 4. Before a final 250 (`250 2.0.0 ID`) is sent to a session, the entry ID stands.

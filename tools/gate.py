@@ -118,7 +118,7 @@ def page(crates, clock, spent, said):
     return (
         f"{machine()}; {day}; commit `{commit.stdout.strip()}`, {how}: `{said.splitlines()[-1]}`.\n\n"
         + table(["Of the gate", "Processor minutes"], rows)
-        + f"\nThe crates that take more than {DEAR // 60}:\n\n"
+        + f"\nThe same of each crate that takes more than {DEAR // 60}:\n\n"
         + table(["Crate", *KINDS], dearest)
     )
 

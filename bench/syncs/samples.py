@@ -96,8 +96,9 @@ SYNCFS = {
     f"13 syncfs(3<{QUEUE}>) = -1 EIO (Input/output error)": "comes before the sync of df",
     "13 close(3) = 0": "comes before the sync of df",
 }
-# What must be said where one begins before the files are written whose syncs it stands for, and ends
-# behind them; and where it stands for the sync of the directory, behind the renaming or before it.
+# What must be said where one begins before the files are written whose syncs it stands for, and
+# ends behind them; and where it stands for the sync of the directory, behind the renaming or
+# before it.
 EARLY = "comes before the sync of df"
 NAMED = {True: None, False: "before the sync of the directory"}
 # Whether a change in another directory may come at the end where these are taken out.
@@ -124,6 +125,12 @@ def said_of(lines):
     return Watch().go_through(whole).wrong
 
 
+def began():
+    """A child that syncs file systems, up to its call."""
+    yield START.replace("12", "13")
+    yield '13 execve("/bin/sync", ["sync", "-f", "q"], 0x7ff /* 1 var */) = 0'
+
+
 def joint(call):
     """The record with a sync of the file system behind both messages, before any is renamed."""
     lines = {key: line for key, line in sample().items() if key not in JOINT}
@@ -132,18 +139,11 @@ def joint(call):
     for key in lines:
         if key == "part named":
             yield from (lines[it] for it in keys if it not in names and it != "message read")
-            yield START.replace("12", "13")
-            yield '13 execve("/bin/sync", ["sync", "-f", "q"], 0x7ff /* 1 var */) = 0'
+            yield from began()
             yield call
             yield from (lines[it] for it in names)
         elif key not in keys or key == "message read":
             yield lines[key]
-
-
-def began():
-    """A child that syncs file systems, up to its call."""
-    yield START.replace("12", "13")
-    yield '13 execve("/bin/sync", ["sync", "-f", "q"], 0x7ff /* 1 var */) = 0'
 
 
 def early():
