@@ -30,7 +30,16 @@ pub struct QueueDirs<'a> {
     prefix: &'a [u8],
     unsynced: &'a Unsynced,
     held: Vec<Held>,
+    written: Option<Written>,
     faults: u64,
+}
+
+/// The file that was written last.
+#[derive(Drop)]
+struct Written {
+    path: Text,
+    /// What its control text has to come before, if it is one of a part.
+    before: Option<Text>,
 }
 
 /// A directory that is locked.
@@ -49,6 +58,7 @@ impl<'a> QueueDirs<'a> {
             prefix,
             unsynced: motion.unsynced(),
             held: Vec::new(alloc),
+            written: None,
             faults: 0,
         }
     }
@@ -107,8 +117,28 @@ impl<'a> QueueDirs<'a> {
     {
         let place = self.hold(dir)?;
         let path = path_of(self.prefix, dir, name)?;
+        let written = if is_of(name, Kind::Tf) {
+            Some(Written {
+                path: Text::of(self.alloc, &path)?,
+                before: first_part_in(self.alloc, bytes)?,
+            })
+        } else {
+            None
+        };
         self.unsynced.write(place, &path, bytes)?;
+        self.written = written;
         Ok(())
+    }
+
+    // How the path of the first part's control text ends, where the file at that path is the control
+    // text of a part. The one that was written last isn't read again.
+    fn first_part(&mut self, path: &Path) -> Result<Option<Text>, EdgeFault>
+        ensures { self.new.faults ≡ self.old.faults }
+    {
+        match self.written.take() {
+            Some(written) if *written.path.bytes() == **path => Ok(written.before),
+            _ => first_part_at(self.alloc, path),
+        }
     }
 
     // Gives a file another name. Where it is the control text of a part, the first part's comes
@@ -120,7 +150,7 @@ impl<'a> QueueDirs<'a> {
         let from_path = path_of(self.prefix, dir, from)?;
         let to_path = path_of(self.prefix, dir, to)?;
         let before = if is_of(to, Kind::Qf) {
-            first_part(self.alloc, &from_path)?
+            self.first_part(&from_path)?
         } else {
             None
         };
@@ -207,15 +237,20 @@ fn locked(
     Ok(Held { dir, place })
 }
 
-// How the path of the first part's control text ends, where a file is the control text of a part:
-// its third line then names the first part and its revision, as `pw000000000001 3`.
-fn first_part(alloc: Global, path: &Path) -> Result<Option<Text>, EdgeFault> {
+// How the path of the first part's control text ends, where the file at a path is the control text
+// of a part.
+fn first_part_at(alloc: Global, path: &Path) -> Result<Option<Text>, EdgeFault> {
     let mut head = [0u8; 128];
     let count = match Descriptor::to_read(path)? {
         Some(file) => file.read(&mut head)?,
         None => 0,
     };
-    let head = head.get(..count).unwrap_or(b"");
+    first_part_in(alloc, head.get(..count).unwrap_or(b""))
+}
+
+// The same of a text that begins so: its third line names the first part and its revision, as
+// `pw000000000001 3`.
+fn first_part_in(alloc: Global, head: &[u8]) -> Result<Option<Text>, EdgeFault> {
     let Some(id) = parent_in(head) else {
         return Ok(None);
     };
