@@ -5,7 +5,7 @@ const SHORT: u64 = 2;
 
 /// Since when output waits for the disk, if any does, and how long the disk last took. Times are
 /// milliseconds of one clock.
-#[derive(Clone, Copy, Default)]
+#[derive(Clone, Copy)]
 pub struct Gathering {
     since: Option<u64>,
     pace: u64,

@@ -473,7 +473,7 @@ impl Port {
         Some(Turn::Closed(number))
     }
 
-    // Lets the session at a place go. The others have other places then, so that it is looked again.
+    // Lets the session at a place go. The others' places change, so that it is looked again.
     fn close(&mut self, place: usize) {
         if place < self.sessions.len() {
             self.asked.clear();
