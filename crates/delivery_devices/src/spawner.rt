@@ -25,10 +25,11 @@ struct Child {
     pid: i32,
 }
 
-/// Programs of the system. A child's standard input is a file with no name that holds its input,
-/// its standard output and error go to /dev/null, and it has no other descriptor. A start fails
-/// where the program can't be run, where an argument has a NUL, or where memory, descriptors or
-/// room for the input are wanting. What was changed in the queue is on the disk before it.
+/// Programs of the system. A child's standard input is whole before it starts: a pipe that holds it
+/// where it fits into one, and otherwise a file with no name. Its standard output and error go to
+/// /dev/null, and it has no other descriptor. A start fails where the program can't be run, where an
+/// argument has a NUL, or where memory, descriptors or room for the input are wanting. What was
+/// changed in the queue is on the disk before it.
 ///
 /// A poll never waits for a child. Where nothing was done since, and as many polls as there are
 /// children found theirs running, the last of them waits 1 to 5 milliseconds, or lets the floor wait
@@ -189,8 +190,7 @@ fn add_word(words: &mut Vec<u8>, word: &Text) -> Result<(), Failed> {
 
 // Starts a program with these words over this input, and gives its process's number.
 fn started(program: &Text, words: &[u8], input: &Text) -> Result<i32, Failed> {
-    let source = Descriptor::unnamed()?;
-    source.fill(input.bytes())?;
+    let source = Descriptor::holding(input.bytes())?;
     let sink = Descriptor::null()?;
     let ends = [source.number(), sink.number(), sink.number()];
     match os::spawn(program.bytes(), words, ENVIRONMENT, DIRECTORY, ends) {

@@ -1,6 +1,9 @@
 // Descriptors of the C library. Each call is made again where a signal interrupted it.
 use mail_base::Failed;
 
+/// The most bytes that a pipe of Linux holds.
+const PIPE: usize = 65_536;
+
 /// The name of a file that is to lose it.
 const UNNAMED: &[u8; 20] = b"/tmp/sendmail-XXXXXX";
 
@@ -44,6 +47,20 @@ impl Descriptor {
     /// Opens a file that is there for writing, as a device whose disk is full.
     pub fn to_change(path: &[u8]) -> Result<Descriptor, Failed> {
         opened(path, libc::O_WRONLY).map_err(|_| Failed)
+    }
+
+    /// What holds these bytes and no others, to be read from the first one: a pipe that nobody writes
+    /// any more where they fit into one, and otherwise a file with no name.
+    pub fn holding(bytes: &[u8]) -> Result<Descriptor, Failed> {
+        if bytes.len() <= PIPE {
+            if let Some(pipe) = filled(bytes) {
+                return Ok(pipe);
+            }
+        }
+        let file = Descriptor::unnamed()?;
+        file.write_all(bytes)?;
+        file.rewind()?;
+        Ok(file)
     }
 
     /// Makes a file for reading and writing that has no name and is its owner's alone. It is gone
@@ -128,12 +145,6 @@ impl Descriptor {
         Err(Failed)
     }
 
-    /// Writes all of the bytes, and goes back to the first one.
-    pub fn fill(&self, bytes: &[u8]) -> Result<(), Failed> {
-        self.write_all(bytes)?;
-        self.rewind()
-    }
-
     /// Waits until all that it holds has reached the disk.
     pub fn sync(&self) -> Result<(), Failed> {
         for _ in 0..u64::MAX {
@@ -200,6 +211,27 @@ impl Descriptor {
             }
         }
         Err(Failed)
+    }
+}
+
+// The end of a pipe that holds these bytes, and whose other end is closed; `None` where there is no
+// pipe or no room in it for all of them.
+fn filled(bytes: &[u8]) -> Option<Descriptor> {
+    let mut ends = [-1i32; 2];
+    if unsafe { libc::pipe2(&mut ends, libc::O_CLOEXEC) } != 0 {
+        return None;
+    }
+    let [read, written] = ends;
+    let (read, written) = (Descriptor { fd: read }, Descriptor { fd: written });
+    // A pipe may have less room than most have, and no write waits for that.
+    if os::set_nonblocking(written.fd, true) != 0 {
+        return None;
+    }
+    let count = usize::try_from(libc::write(written.fd, bytes)).ok()?;
+    if count == bytes.len() {
+        Some(read)
+    } else {
+        None
     }
 }
 

@@ -13,6 +13,8 @@ use std::{fs, thread};
 #[derive(Clone, Copy)]
 enum Input {
     Bytes(&'static [u8]),
+    /// So many of the 16 megabytes.
+    First(usize),
     /// 16 megabytes.
     Much,
 }
@@ -80,6 +82,27 @@ const RUNS: &[Run] = &[
         args: &[b"-c", b"exit 6"],
         input: Input::Much,
         end: End::Over(6),
+    },
+    Run {
+        name: "65,536 bytes are read",
+        program: b"/bin/sh",
+        args: &[b"-c", b"test $(wc -c) -eq 65536 && exit 5"],
+        input: Input::First(65_536),
+        end: End::Over(5),
+    },
+    Run {
+        name: "65,536 bytes aren't read",
+        program: b"/bin/sh",
+        args: &[b"-c", b"exit 6"],
+        input: Input::First(65_536),
+        end: End::Over(6),
+    },
+    Run {
+        name: "65,537 bytes are read",
+        program: b"/bin/sh",
+        args: &[b"-c", b"test $(wc -c) -eq 65537 && exit 5"],
+        input: Input::First(65_537),
+        end: End::Over(5),
     },
     Run {
         name: "the input is closed at once",
@@ -154,6 +177,11 @@ fn start(
     let args = texts(alloc, run.args).map_err(|_| Failed)?;
     match run.input {
         Input::Bytes(bytes) => {
+            let input = Text::of(alloc, bytes).map_err(|_| Failed)?;
+            spawner.start(&program, &args, &input)
+        }
+        Input::First(count) => {
+            let bytes = much.bytes().get(..count).unwrap_or(&[]);
             let input = Text::of(alloc, bytes).map_err(|_| Failed)?;
             spawner.start(&program, &args, &input)
         }
