@@ -28,9 +28,9 @@ each() {
 # The same of some numbers of things, and how it grows.
 grown() {
     local before=0 now count
-    for count in "${@:7}"; do
-        now=$(each "$1" "$3" "$4" "$5$count")
-        printf '%s %s: %s %s' "$count" "$6" "$now" "$2"
+    for count in "${@:6}"; do
+        now=$(each "$1" "$3" "$4" "$count")
+        printf '%s %s: %s %s' "$count" "$5" "$now" "$2"
         [ "$before" = 0 ] || printf ', %d.%02d times' $((now / before)) $((now * 100 / before % 100))
         echo
         before=$now
@@ -39,16 +39,11 @@ grown() {
 
 # All by a measure, its unit, and of how many times; look-ups of how many.
 measured() {
-    grown "$1" "$2" "$3" aliases members/ 'members of an alias' 1250 2500 5000 10000
-    grown "$1" "$2" "$3" aliases chain/ 'members of each of ten aliases' 125 250 500 1000
-    grown "$1" "$2" "$3" aliases file/ 'lines of an alias file' 25000 50000 100000
-    grown "$1" "$2" "$4" aliases names/ 'names of which one is looked up' 25000 50000 100000
-    grown "$1" "$2" "$3" parts '' 'recipients of a message' 1250 2500 5000 10000
-}
-
-# Calls of the spool for so many messages to so many recipients, and to open the queue.
-calls() {
-    "$bench" parts "$1" "$2" | sed 's/.* by \(.*\) calls/\1/'
+    grown "$1" "$2" "$3" members 'members of an alias' 1250 2500 5000 10000
+    grown "$1" "$2" "$3" chain 'members of each of ten aliases' 125 250 500 1000
+    grown "$1" "$2" "$3" alias_file 'lines of an alias file' 25000 50000 100000
+    grown "$1" "$2" "$4" alias_names 'names of which one is looked up' 25000 50000 100000
+    grown "$1" "$2" "$3" parts 'recipients of a message' 1250 2500 5000 10000
 }
 
 measured best nanoseconds 5 1000000
@@ -56,5 +51,5 @@ if command -v valgrind > /dev/null; then
     measured counted instructions 1 10000
 fi
 for recipients in 1250 2500 5000 10000; do
-    echo "$recipients recipients: $(($(calls "$recipients" 2) - $(calls "$recipients" 1))) calls"
+    echo "$recipients recipients: $(($("$bench" parts "$recipients" 2) - $("$bench" parts "$recipients" 1))) calls"
 done

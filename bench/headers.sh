@@ -3,7 +3,7 @@
 # from MAIL to the dot, in pieces of 64 and 65,536 bytes, over some 100,000,000 bytes of messages, and the greatest
 # memory in KiB. The program is crates/bench. This is no part of the gate.
 cd "$(dirname "$0")/../crates/bench" || exit 1
-rt run -- lines >/dev/null || exit 1
+rt run -- control 1 >/dev/null || exit 1
 
 # How it is named, how many bytes there are, and the program's words.
 measure() {
@@ -19,6 +19,6 @@ for part in "headers 1526 99983520" "body 6 100663200"; do
   set -- $part
   for size in 64 65536; do
     measure "$1 in pieces of $size bytes, gathered" "$3" "$1" "$size" "$2"
-    measure "$1 in pieces of $size bytes, received" "$3" receipt "$1/$size" "$2"
+    measure "$1 in pieces of $size bytes, received" "$3" "receipt_$1" "$size" "$2"
   done
 done

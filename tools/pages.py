@@ -22,7 +22,7 @@ TOP = os.path.dirname(os.path.dirname(os.path.abspath(__file__)))
 LINK = re.compile(r"\[[^\]]*\]\(([^)\s]+)\)")
 QUOTED = re.compile(r"`([^`\s]+)`")
 # A path of the repository begins with one of its folders.
-FOLDERS = ("crates/", "docs/", "tools/", "bench/", "open/", "packaging/", ".ci/")
+FOLDERS = ("crates/", "docs/", "tools/", "bench/", "packaging/", ".ci/")
 # Words of a path that stand for others, and what a build makes.
 BLANKS = re.compile(r"NAME|FILE|DIR|CRATE|[*{<$]|\.\.\.?(?!/)|/out\b|\bout/")
 FILE = re.compile(r"[\w./-]+\.(?:rt|antt|scene|py|sh|md|cf)")

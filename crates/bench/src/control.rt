@@ -1,25 +1,32 @@
-//! Parses and prints a control text of so many rows, 10,000 where that is left out, and tells how
-//! many bytes it has.
+//! Parses and prints a control text of so many rows, and counts its bytes.
 
-use crate::number::number_or;
 use anyhow::{Result, ensure};
-use mail_base::{NoMemory, Text};
+use mail_base::{Id, Kind, NoMemory, Text};
 use qf_format::{parse, print};
+use spool_disk::File;
 use std::alloc::Global;
 
-const FRONT: &[u8] =
+/// The directory of entries.
+pub(crate) static DIR: &[u8] = b"/var/spool/mqueue";
+
+/// What a control text of one sender and no rows begins with.
+pub(crate) static FRONT: &[u8] =
     b"V1\nv1\ngmqueue\nT1767225600\nK0\nN0\nP30022\nc0\nS<bob@c.example>\n$rESMTP\n$sc.example\n\
         ${client_addr}\n";
 
-const ROW: &[u8] = b"RPFD:<ann@mx.example>\neF 5.1.1 550 user unknown\n";
+static ROW: &[u8] = b"RPFD:<ann@mx.example>\neF 5.1.1 550 user unknown\n";
 
-const END: &[u8] = b"HSubject: hi\n.\n";
+pub(crate) static END: &[u8] = b"HSubject: hi\n.\n";
 
-pub(crate) fn answer(alloc: Global, rows: Option<&str>, rounds: u32) -> Result<String> {
-    let rows = number_or(rows, 10_000)?;
+/// That of an entry with one row, which is queued.
+pub(crate) static ONE_ROW: &[u8] =
+    b"V1\nv1\ngmqueue\nT1767225600\nK0\nN0\nP30022\nc0\nS<bob@c.example>\n$rESMTP\n$sc.example\n\
+        ${client_addr}\nRPFD:<ann@mx.example>\neQ\nHSubject: hi\n.\n";
+
+pub(crate) fn printed(alloc: Global, rows: u32, rounds: u32) -> Result<u64> {
     ensure!(rows > 0, "an entry has at least one row");
-    let bytes = repeat(alloc, rows, rounds)?;
-    Ok(format!(in alloc; "{bytes} bytes")?)
+    let text = text_of(alloc, rows)?;
+    Ok(print_often(&text, rounds)?)
 }
 
 /// A control text with so many rows that failed.
@@ -32,19 +39,27 @@ fn text_of(alloc: Global, rows: u32) -> Result<Text, NoMemory> {
     Ok(text)
 }
 
-fn repeat(alloc: Global, rows: u32, rounds: u32) -> Result<usize, NoMemory> {
-    let text = text_of(alloc, rows)?;
+fn print_often(text: &Text, rounds: u32) -> Result<u64, NoMemory> {
     let mut bytes = 0;
     for _ in 0..rounds {
-        bytes = printed_again(&text)?;
+        bytes = printed_again(text)?;
     }
     Ok(bytes)
 }
 
 /// How many bytes the text has once it is parsed and printed; none where it is no control text.
-fn printed_again(text: &Text) -> Result<usize, NoMemory> {
+fn printed_again(text: &Text) -> Result<u64, NoMemory> {
     match parse(text)? {
-        Some(control) => Ok(print(&control)?.len()),
+        Some(control) => Ok(print(&control)?.len() as u64),
         None => Ok(0),
     }
+}
+
+/// A file of the entry of that id.
+pub(crate) fn file_of(alloc: Global, id: Id, kind: Kind, bytes: &[u8]) -> Result<File, NoMemory> {
+    Ok(File {
+        dir: Text::of(alloc, DIR)?,
+        name: Text::of(alloc, id.name(kind).bytes())?,
+        bytes: Text::of(alloc, bytes)?,
+    })
 }

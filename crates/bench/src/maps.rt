@@ -1,70 +1,74 @@
-//! Loads a hash map's file of so many lines, 100,000 where that is left out, and looks so many of
-//! its keys up, and tells how many were found.
+//! Loads a hash map's file of so many lines, looks so many of its keys up as the third word says,
+//! and counts those that are found.
 
-use crate::number::number_or;
+use crate::configured::config_of;
+use crate::names::{add, numbered};
 use anyhow::Result;
-use mail_base::{Config, Macros, MapClass, MapLine, NoMemory, Seq, Text};
+use mail_base::{Macros, NoMemory, Seq, Text};
 use map_tables::{Found, Maps, Named};
 use std::alloc::Global;
 
-pub(crate) fn answer(alloc: Global, lines: Option<&str>, rounds: u32) -> Result<String> {
-    let lines = number_or(lines, 100_000)?;
+static CONFIG: &[u8] = b"Kh hash /h\n";
+
+pub(crate) fn found(alloc: Global, lines: u32, rounds: u32) -> Result<u64> {
     let maps = maps_of(alloc, lines)?;
-    let found = looked_up(alloc, &maps, lines, rounds)?;
-    Ok(format!(in alloc; "{found} found")?)
+    looked_up(alloc, &maps, lines, rounds)
 }
 
 fn key(alloc: Global, number: u32) -> Result<Text, NoMemory> {
-    let key = format!(in alloc; "user{number}@host.example")?;
-    Text::of(alloc, key.as_bytes())
+    numbered(alloc, "user", number, "@host.example")
 }
 
 fn text_of(alloc: Global, lines: u32) -> Result<Text, NoMemory> {
     let mut text = Text::new(alloc);
     for number in 0..lines {
-        text.extend(key(alloc, number)?.bytes())?;
-        text.extend(b" somebody@another.host.example\n")?;
+        add(
+            &mut text,
+            "user",
+            number,
+            "@host.example somebody@another.host.example\n",
+        )?;
     }
     Ok(text)
 }
 
-fn line(alloc: Global) -> Result<MapLine, NoMemory> {
-    Ok(MapLine {
-        name: Text::of(alloc, b"h")?,
-        tag: Text::new(alloc),
-        file: Some(Text::of(alloc, b"/h")?),
-        class: MapClass::Hash,
-        keeps_case: false,
-        match_only: false,
-        optional: false,
-        key_column: 0,
-        value_column: 1,
-        separator: None,
+fn file_of(alloc: Global, lines: u32) -> Result<Named, NoMemory> {
+    Ok(Named {
+        name: Text::of(alloc, b"/h")?,
+        bytes: text_of(alloc, lines)?,
     })
 }
 
-fn maps_of(alloc: Global, lines: u32) -> Result<Maps, NoMemory> {
-    let mut config = Config::new(alloc)?;
-    config.maps.push(line(alloc)?)?;
-    let mut texts = Seq::new(alloc);
-    texts.push(Named {
-        name: Text::of(alloc, b"/h")?,
-        bytes: text_of(alloc, lines)?,
-    })?;
-    Maps::load(alloc, &config, &texts, &Text::new(alloc))
+fn files_of(alloc: Global, lines: u32) -> Result<Seq<Named>, NoMemory> {
+    let mut files = Seq::new(alloc);
+    files.push(file_of(alloc, lines)?)?;
+    Ok(files)
+}
+
+fn maps_of(alloc: Global, lines: u32) -> Result<Maps> {
+    let files = files_of(alloc, lines)?;
+    let config = config_of(alloc, CONFIG)?;
+    Ok(Maps::load(alloc, &config, &files, &Text::new(alloc))?)
 }
 
 /// How many of the keys are found, each asked once and again from the first on.
-fn looked_up(alloc: Global, maps: &Maps, lines: u32, rounds: u32) -> Result<u32> {
+fn looked_up(alloc: Global, maps: &Maps, lines: u32, rounds: u32) -> Result<u64> {
     let name = Text::of(alloc, b"h")?;
-    let args = Seq::new(alloc);
     let mut macros = Macros::new(alloc);
-    let mut found = 0u32;
+    let mut found = 0u64;
     for round in 0..rounds {
         let key = key(alloc, round % lines.max(1))?;
-        if let Found::Value(_) = maps.lookup(&name, &key, &args, &mut macros)? {
+        if is_found(maps, &name, &key, &mut macros)? {
             found = found.saturating_add(1);
         }
     }
     Ok(found)
+}
+
+fn is_found(maps: &Maps, name: &Text, key: &Text, macros: &mut Macros) -> Result<bool> {
+    let args = Seq::new(key.allocator());
+    match maps.lookup(name, key, &args, macros)? {
+        Found::Value(_) => Ok(true),
+        _ => Ok(false),
+    }
 }

@@ -1,6 +1,6 @@
 //! Searches for the matches of left sides, of the kind `common` (300 rules of three items over six
-//! tokens, the first where that is left out) or `class` (the same with a class in each), or of
-//! twenty classes over so many tokens, of which they take 60 at most, and tells how many match.
+//! tokens) or `class` (the same with a class in each), or of twenty classes over so many tokens, of
+//! which they take 60 at most, and counts those that match.
 
 use anyhow::{Result, bail};
 use mail_base::{Classes, Item, Member, NoMemory, Pattern, Seq, Text, Token, Word};
@@ -9,13 +9,26 @@ use std::alloc::Global;
 
 const RULES: u32 = 300;
 
-pub(crate) fn answer(alloc: Global, kind: Option<&str>, rounds: u32) -> Result<String> {
-    let count = match kind {
-        None | Some("common") => repeat(&rules(alloc, false)?, &six(alloc)?, rounds)?,
-        Some("class") => repeat(&rules(alloc, true)?, &six(alloc)?, rounds)?,
-        Some(tokens) => repeat(&twenty(alloc)?, &many(alloc, tokens.parse()?)?, rounds)?,
-    };
-    Ok(format!(in alloc; "{count} matches")?)
+pub(crate) fn found(alloc: Global, kind: &str, rounds: u32) -> Result<u64> {
+    match kind {
+        "common" => of_rules(alloc, false, rounds),
+        "class" => of_rules(alloc, true, rounds),
+        tokens => of_classes(alloc, tokens.parse()?, rounds),
+    }
+}
+
+/// Of the rules over six tokens.
+fn of_rules(alloc: Global, with_class: bool, rounds: u32) -> Result<u64> {
+    let tokens = six(alloc)?;
+    let rules = rules(alloc, with_class)?;
+    Ok(match_often(&rules, &tokens, rounds)?)
+}
+
+/// Of twenty classes over so many tokens.
+fn of_classes(alloc: Global, tokens: u32, rounds: u32) -> Result<u64> {
+    let tokens = many(alloc, tokens)?;
+    let rules = twenty(alloc)?;
+    Ok(match_often(&rules, &tokens, rounds)?)
 }
 
 fn word(alloc: Global, letter: u8) -> Result<Token, NoMemory> {
@@ -52,19 +65,43 @@ fn absent(alloc: Global, place: u32) -> Result<Item, NoMemory> {
     Ok(Item::Exact(word(alloc, b'f' + (place % 20) as u8)?))
 }
 
-/// The left side of a rule, of one of four forms.
-fn left_of(alloc: Global, place: u32, classes: bool) -> Result<[Item; 3], NoMemory> {
-    let last = if classes {
-        class(alloc)?
+/// A class, or a word that isn't among the tokens.
+fn last_of(alloc: Global, place: u32, classes: bool) -> Result<Item, NoMemory> {
+    if classes {
+        class(alloc)
     } else {
-        absent(alloc, place)?
-    };
-    Ok(match place % 4 {
-        0 => [Item::Any, Item::Exact(Token::Op(b'@')), last],
-        1 => [Item::More, Item::Exact(Token::Op(b'<')), last],
-        2 => [absent(alloc, place)?, Item::Any, last],
-        _ => [Item::Any, last, Item::Any],
-    })
+        absent(alloc, place)
+    }
+}
+
+/// What a rule of one of four forms begins with.
+fn first_of(alloc: Global, place: u32) -> Result<Item, NoMemory> {
+    match place % 4 {
+        1 => Ok(Item::More),
+        2 => absent(alloc, place),
+        _ => Ok(Item::Any),
+    }
+}
+
+/// The left side of a rule of one of four forms, by its first item and its item of a word.
+fn ordered(place: u32, first: Item, last: Item) -> [Item; 3] {
+    match place % 4 {
+        0 => [first, Item::Exact(Token::Op(b'@')), last],
+        1 => [first, Item::Exact(Token::Op(b'<')), last],
+        2 => [first, Item::Any, last],
+        _ => [first, last, Item::Any],
+    }
+}
+
+fn left_of(alloc: Global, place: u32, classes: bool) -> Result<[Item; 3], NoMemory> {
+    let first = first_of(alloc, place)?;
+    let last = last_of(alloc, place, classes)?;
+    Ok(ordered(place, first, last))
+}
+
+fn rule_of(alloc: Global, place: u32, classes: bool) -> Result<Pattern> {
+    let items = Vec::from_array(alloc, left_of(alloc, place, classes)?)?;
+    pattern_of(Seq::from_vec(items))
 }
 
 fn pattern_of(items: Seq<Item>) -> Result<Pattern> {
@@ -77,8 +114,7 @@ fn pattern_of(items: Seq<Item>) -> Result<Pattern> {
 fn rules(alloc: Global, classes: bool) -> Result<Seq<Pattern>> {
     let mut rules = Seq::new(alloc);
     for place in 0..RULES {
-        let items = Vec::from_array(alloc, left_of(alloc, place, classes)?)?;
-        rules.push(pattern_of(Seq::from_vec(items))?)?;
+        rules.push(rule_of(alloc, place, classes)?)?;
     }
     Ok(rules)
 }
@@ -93,14 +129,19 @@ fn twenty(alloc: Global) -> Result<Seq<Pattern>> {
     Ok(rules)
 }
 
+/// A phrase of so many words.
+fn phrase(alloc: Global, count: u8) -> Result<Member, NoMemory> {
+    Ok(Member {
+        text: Text::of(alloc, &[count])?,
+        tokens: Some(many(alloc, u32::from(count))?),
+    })
+}
+
 /// A class of the phrases of one, two and three words.
 fn classes(alloc: Global) -> Result<Classes, NoMemory> {
     let mut members = Seq::new(alloc);
     for count in 1..4u8 {
-        members.push(Member {
-            text: Text::of(alloc, &[count])?,
-            tokens: Some(many(alloc, u32::from(count))?),
-        })?;
+        members.push(phrase(alloc, count)?)?;
     }
     let mut classes = Classes::new(alloc);
     classes.extend(&Text::of(alloc, b"w")?, members)?;
@@ -108,17 +149,22 @@ fn classes(alloc: Global) -> Result<Classes, NoMemory> {
 }
 
 /// How many of the rules match the tokens, the last time of so many.
-fn repeat(rules: &Seq<Pattern>, tokens: &Seq<Token>, rounds: u32) -> Result<usize> {
+fn match_often(rules: &Seq<Pattern>, tokens: &Seq<Token>, rounds: u32) -> Result<u64, NoMemory> {
     let classes = classes(tokens.allocator())?;
-    let late = Seq::new(tokens.allocator());
-    let mut count = 0usize;
+    let mut count = 0;
     for _ in 0..rounds {
-        count = 0;
-        for rule in rules.items() {
-            if lists_wanted(rule) == late.len() && find(rule, tokens, &classes, &late).is_some() {
-                count = count.saturating_add(1);
-            }
-        }
+        count = match_all(rules, tokens, &classes);
     }
     Ok(count)
+}
+
+fn match_all(rules: &Seq<Pattern>, tokens: &Seq<Token>, classes: &Classes) -> u64 {
+    let late = Seq::new(tokens.allocator());
+    let mut count = 0u64;
+    for rule in rules.items() {
+        if lists_wanted(rule) == late.len() && find(rule, tokens, classes, &late).is_some() {
+            count = count.saturating_add(1);
+        }
+    }
+    count
 }

@@ -1,12 +1,11 @@
-//! Receives messages in a session, from MAIL to the dot, in pieces of so many bytes. The second
-//! word says of what they are and the bytes of a piece, as `headers/64`; headers and 65,536 where
-//! these are left out. Each time a message comes: one of 65,520 bytes of headers, or one of
-//! 16,777,200 bytes of body. It tells how many bytes were received.
+//! Receives messages in a session, from MAIL to the dot, in pieces of so many bytes, and counts the
+//! bytes that are received. Each time a message comes: one of 65,520 bytes of headers, or one of
+//! 16,777,200 bytes of body.
 
 ghost use Rattle.std.specs.Prelude.{◌<◌};
 
 use crate::gather::{Part, message};
-use anyhow::{Result, bail, ensure};
+use anyhow::{Result, ensure};
 use judge_samples::TestJudge;
 use mail_base::{Config, NoMemory, Seq, Text};
 use smtp_lines::{Line, Lines};
@@ -14,46 +13,42 @@ use smtp_receive::{Did, Session};
 use std::alloc::Global;
 
 /// What the peer says before each message.
-const OPENING: &[u8] = b"MAIL FROM:<bob@c.example>\r\nRCPT TO:<ann@mx.example>\r\nDATA\r\n";
+static OPENING: &[u8] = b"MAIL FROM:<bob@c.example>\r\nRCPT TO:<ann@mx.example>\r\nDATA\r\n";
 
-pub(crate) fn answer(alloc: Global, over: Option<&str>, rounds: u32) -> Result<String> {
-    let (name, size) = words(over.unwrap_or("headers"))?;
-    let part = match name {
-        "headers" => Part::Headers,
-        "body" => Part::Body,
-        _ => bail!("a message is of headers or of body"),
-    };
+pub(crate) fn received(alloc: Global, part: Part, size: u32, rounds: u32) -> Result<u64> {
     ensure!(size > 0, "a piece has at least one byte");
     let message = message(alloc, part)?;
-    let received = receive(alloc, &message, size, rounds)?;
-    Ok(format!(in alloc; "{received} bytes")?)
+    Ok(receive(alloc, &message, size as usize, rounds)?)
 }
 
-/// What the messages are of, and the bytes of a piece.
-fn words(over: &str) -> Result<(&str, usize)> {
-    match over.split_once('/') {
-        Some((name, size)) => Ok((name, size.parse()?)),
-        None => Ok((over, 65_536)),
-    }
+fn session_of(alloc: Global) -> Result<Session, NoMemory> {
+    let host = Text::of(alloc, b"mx.example")?;
+    let peer = Text::of(alloc, b"192.0.2.1")?;
+    Session::new(alloc, &host, &peer)
 }
 
 fn receive(alloc: Global, message: &[u8], size: usize, rounds: u32) -> Result<u64, NoMemory>
     requires { 0 < size }
 {
     let config = Config::new(alloc)?;
-    let host = Text::of(alloc, b"mx.example")?;
-    let peer = Text::of(alloc, b"192.0.2.1")?;
-    let mut session = Session::new(alloc, &host, &peer)?;
+    let mut session = session_of(alloc)?;
     let mut reader = Lines::new(alloc);
+    receive_often(&mut session, &config, &mut reader, message, size, rounds)
+}
+
+fn receive_often(
+    session: &mut Session,
+    config: &Config,
+    reader: &mut Lines,
+    message: &[u8],
+    size: usize,
+    rounds: u32,
+) -> Result<u64, NoMemory>
+    requires { 0 < size }
+{
     let mut received = 0u64;
     for _ in 0..rounds {
-        received = received.wrapping_add(receive_one(
-            &mut session,
-            &config,
-            &mut reader,
-            message,
-            size,
-        )?);
+        received = received.wrapping_add(receive_one(session, config, reader, message, size)?);
     }
     Ok(received)
 }
@@ -88,7 +83,11 @@ fn hear(session: &mut Session, config: &Config, lines: &Seq<Line>) -> Result<u64
 
 fn hear_line(session: &mut Session, config: &Config, line: &Line) -> Result<u64, NoMemory> {
     match session.line(line, config, &mut TestJudge::new()) {
-        Ok(did) => Ok(size_of(&did)),
+        Ok(did) => {
+            let size = size_of(&did);
+            drop(did);
+            Ok(size)
+        }
         Err(_fault) => Err(NoMemory),
     }
 }

@@ -1,7 +1,6 @@
-//! Makes a ruleset of so many rules of different anchors, 3,000 where that is left out, and tells
-//! how many it has.
+//! Makes a ruleset of so many rules of different anchors, and counts them.
 
-use crate::number::number_or;
+use crate::names::numbered;
 use anyhow::{Result, bail};
 use mail_base::{
     Go, Item, NoMemory, Pattern, Piece, Rule, RuleSet, Seq, Step, Template, Text, Token, Word,
@@ -9,18 +8,17 @@ use mail_base::{
 use rule_index::build;
 use std::alloc::Global;
 
-pub(crate) fn answer(alloc: Global, rules: Option<&str>, rounds: u32) -> Result<String> {
-    let rules = number_or(rules, 3_000)?;
+pub(crate) fn made(alloc: Global, rules: u32, rounds: u32) -> Result<u64> {
     let mut count = 0;
     for _ in 0..rounds {
-        count = set_of(alloc, rules)?.count();
+        count = set_of(alloc, rules)?.count() as u64;
     }
-    Ok(format!(in alloc; "{count} rules")?)
+    Ok(count)
 }
 
 fn word(alloc: Global, number: u32) -> Result<Token, NoMemory> {
-    let name = format!(in alloc; "w{number}")?;
-    Ok(Token::Word(Word::of(alloc, name.as_bytes())?))
+    let name = numbered(alloc, "w", number, "")?;
+    Ok(Token::Word(Word::of(alloc, name.bytes())?))
 }
 
 /// The left side of a rule: its word, and then anything.
@@ -31,12 +29,17 @@ fn left_of(alloc: Global, number: u32) -> Result<Seq<Item>, NoMemory> {
     Ok(items)
 }
 
+fn steps(alloc: Global) -> Result<Seq<Step>, NoMemory> {
+    let mut steps = Seq::new(alloc);
+    steps.push(Step::Plain(Piece::Cut(1)))?;
+    Ok(steps)
+}
+
 fn rule_of(alloc: Global, number: u32) -> Result<Rule> {
+    let steps = steps(alloc)?;
     let Some(left) = Pattern::of(left_of(alloc, number)?) else {
         bail!("many signs");
     };
-    let mut steps = Seq::new(alloc);
-    steps.push(Step::Plain(Piece::Cut(1)))?;
     let right = Template {
         go: Go::Next,
         steps,
@@ -44,12 +47,22 @@ fn rule_of(alloc: Global, number: u32) -> Result<Rule> {
     Ok(Rule { left, right })
 }
 
-fn set_of(alloc: Global, rules: u32) -> Result<RuleSet> {
+fn rules_of(alloc: Global, rules: u32) -> Result<Seq<Rule>> {
     let mut list = Seq::new(alloc);
     for number in 0..rules {
         list.push(rule_of(alloc, number)?)?;
     }
+    Ok(list)
+}
+
+fn names(alloc: Global) -> Result<Seq<Text>, NoMemory> {
     let mut names = Seq::new(alloc);
     names.push(Text::of(alloc, b"1")?)?;
+    Ok(names)
+}
+
+fn set_of(alloc: Global, rules: u32) -> Result<RuleSet> {
+    let list = rules_of(alloc, rules)?;
+    let names = names(alloc)?;
     Ok(RuleSet::of(names, build(&list)?))
 }

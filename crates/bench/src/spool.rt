@@ -1,65 +1,52 @@
-//! Writes so many entries into a spool in memory, 500 where that is left out, each as two files, of
-//! a body and of a control text. Then it reads each file once, and tells how many bytes they are.
+//! Writes so many entries into a spool in memory, each as two files, of a body and of a control
+//! text. Then it reads each file once, and counts their bytes.
 
-use crate::number::number_or;
+use crate::names::numbered;
 use anyhow::{Result, bail};
 use mail_base::{Seq, Text};
 use spool_disk::{MemSpool, Spool};
 use std::alloc::Global;
 
-pub(crate) fn answer(alloc: Global, entries: Option<&str>, rounds: u32) -> Result<String> {
-    let entries = number_or(entries, 500)?;
+pub(crate) fn read(alloc: Global, entries: u32, rounds: u32) -> Result<u64> {
+    let dir = Text::of(alloc, b"/var/spool/mqueue")?;
     let mut bytes = 0;
     for _ in 0..rounds {
-        bytes = written_and_read(alloc, entries)?;
-    }
-    Ok(format!(in alloc; "{bytes} bytes")?)
-}
-
-/// The names of an entry's files.
-#[derive(Drop)]
-struct Names {
-    body: Text,
-    control: Text,
-}
-
-fn names_of(alloc: Global, number: u32) -> Result<Names> {
-    let body = format!(in alloc; "dfw{number}")?;
-    let control = format!(in alloc; "qfw{number}")?;
-    Ok(Names {
-        body: Text::of(alloc, body.as_bytes())?,
-        control: Text::of(alloc, control.as_bytes())?,
-    })
-}
-
-fn written_and_read(alloc: Global, entries: u32) -> Result<usize> {
-    let dir = Text::of(alloc, b"/var/spool/mqueue")?;
-    let text = Text::of(alloc, &[b'x'; 600])?;
-    let mut spool = MemSpool::new(alloc, Seq::new(alloc));
-    for number in 0..entries {
-        write(&mut spool, &dir, &names_of(alloc, number)?, &text)?;
-    }
-    let mut bytes = 0usize;
-    for number in 0..entries {
-        let names = names_of(alloc, number)?;
-        bytes = bytes.saturating_add(read(alloc, &mut spool, &dir, &names.control)?);
-        bytes = bytes.saturating_add(read(alloc, &mut spool, &dir, &names.body)?);
+        let mut spool = MemSpool::new(alloc, Seq::new(alloc));
+        bytes = written_and_read(alloc, &mut spool, &dir, entries)?;
     }
     Ok(bytes)
 }
 
-fn write<S: Spool>(spool: &mut S, dir: &Text, names: &Names, text: &Text) -> Result<()> {
-    if spool.write_new(dir, &names.body, text).is_err()
-        || spool.write_new(dir, &names.control, text).is_err()
-    {
-        bail!("a file isn't written");
+fn written_and_read(alloc: Global, spool: &mut MemSpool, dir: &Text, entries: u32) -> Result<u64> {
+    let text = Text::of(alloc, &[b'x'; 600])?;
+    for number in 0..entries {
+        write(spool, dir, &numbered(alloc, "dfw", number, "")?, &text)?;
+        write(spool, dir, &numbered(alloc, "qfw", number, "")?, &text)?;
     }
-    Ok(())
+    read_all(alloc, spool, dir, entries)
 }
 
-fn read<S: Spool>(alloc: Global, spool: &mut S, dir: &Text, name: &Text) -> Result<usize> {
-    match spool.read(alloc, dir, name) {
-        Ok(Some(bytes)) => Ok(bytes.len()),
+/// How many bytes all files have.
+fn read_all(alloc: Global, spool: &mut MemSpool, dir: &Text, entries: u32) -> Result<u64> {
+    let mut bytes = 0u64;
+    for number in 0..entries {
+        let control = length_of(spool, dir, &numbered(alloc, "qfw", number, "")?)?;
+        let body = length_of(spool, dir, &numbered(alloc, "dfw", number, "")?)?;
+        bytes = bytes.saturating_add(control).saturating_add(body);
+    }
+    Ok(bytes)
+}
+
+fn write(spool: &mut MemSpool, dir: &Text, name: &Text, text: &Text) -> Result<()> {
+    match spool.write_new(dir, name, text) {
+        Ok(()) => Ok(()),
+        Err(_) => bail!("a file isn't written"),
+    }
+}
+
+fn length_of(spool: &mut MemSpool, dir: &Text, name: &Text) -> Result<u64> {
+    match spool.read(dir.allocator(), dir, name) {
+        Ok(Some(bytes)) => Ok(bytes.len() as u64),
         Ok(None) => bail!("a file isn't there"),
         Err(_) => bail!("a read fails"),
     }

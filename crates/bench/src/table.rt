@@ -1,7 +1,8 @@
-//! The message table over a queue in memory, of so many entries, 1,000 where that is left out.
-//! `table` does to each as many of these as the third word says: it is put in, its row is recorded
-//! as sent, and it is finished. `idle` asks so many times which entry of a table is due where none
-//! is, and `woken` the same where the table changed before each time.
+//! The message table over a queue in memory, of so many entries. `table` does to each as many of
+//! these as the third word says: it is put in, its row is recorded as sent, and it is finished; and
+//! it counts the entries that are left. `idle` asks so many times which entry of a table is due
+//! where none is, `woken` the same where the table changed before each time, and both count the
+//! times that one is due all the same.
 
 ghost use Rattle.std.specs.Prelude.{◌≡◌, IfOk, OnOk, Some};
 ghost use Rattle.spool_disk.specs.Changes.{after_all};
@@ -10,8 +11,8 @@ ghost use Rattle.queue_table.specs.Calls.{store};
 ghost use Rattle.queue_table.specs.Claims.{IsQuiet};
 ghost use Rattle.table_samples.specs.Samples.{AreSampleCuts, IsReady, IsSampleMessage};
 
-use crate::number::number_or;
-use anyhow::{Result, bail};
+use crate::control::ONE_ROW;
+use anyhow::Result;
 use mail_base::{
     Catalog, Config, Cut, Message, NoMemory, Note, Outcomes, Result1, Seq, StoreFault, Text,
     TryCopy,
@@ -22,38 +23,22 @@ use spool_store::Held;
 use std::alloc::Global;
 use table_samples::{accept, finish_done, message_of, one_cut, opened, record};
 
-const CONTROL: &[u8] =
-    b"V1\nv1\ngmqueue\nT1767225600\nK0\nN0\nP30022\nc0\nS<bob@c.example>\n$rESMTP\n$sc.example\n\
-        ${client_addr}\nRPFD:<ann@mx.example>\neQ\nHSubject: hi\n.\n";
-
-const BODY: &[u8] = b"hello\r\n";
+static BODY: &[u8] = b"hello\r\n";
 
 const MOMENT: u64 = 1_767_225_600;
 
-pub(crate) fn changes(alloc: Global, entries: Option<&str>, stages: u32) -> Result<String> {
-    let count = number_or(entries, 1_000)?;
-    let mut spool = MemSpool::new(alloc, Seq::new(alloc));
+pub(crate) fn changed(alloc: Global, entries: u32, stages: u32) -> Result<u64> {
     let config = Config::new(alloc)?;
-    let held = changed(alloc, &mut spool, &config, count, stages)?;
-    let calls = spool.calls();
-    Ok(format!(in alloc; "{held} entries by {calls} calls")?)
+    let mut spool = MemSpool::new(alloc, Seq::new(alloc));
+    let mut table = opened(alloc, &mut spool, &config)?;
+    change(alloc, &mut spool, &mut table, entries, stages)
 }
 
-/// Turns in which nothing is due: how many find an entry all the same. Where they wake, each asks
-/// the entries anew.
-pub(crate) fn turns(
-    alloc: Global,
-    entries: Option<&str>,
-    turns: u32,
-    wakes: bool,
-) -> Result<String> {
-    let count = number_or(entries, 1_000)?;
-    let mut spool = MemSpool::new(alloc, Seq::new(alloc));
-    let config = Config::new(alloc)?;
-    let table = tried(alloc, &mut spool, &config, count)?;
+/// Where it wakes, each turn asks the entries anew.
+pub(crate) fn due(alloc: Global, entries: u32, turns: u32, wakes: bool) -> Result<u64> {
     let mut waiting = waiting_of(alloc)?;
-    let due = asked(&mut waiting, table.entries(), turns, wakes);
-    Ok(format!(in alloc; "{due} of {count} entries")?)
+    let table = tried(alloc, entries)?;
+    Ok(asked(&mut waiting, table.entries(), turns, wakes))
 }
 
 fn waiting_of(alloc: Global) -> Result<Waiting, NoMemory>
@@ -68,10 +53,10 @@ fn waiting_of(alloc: Global) -> Result<Waiting, NoMemory>
 }
 
 // How many of so many turns of one second each find an entry that is due.
-fn asked(waiting: &mut Waiting, entries: &[Held], turns: u32, wakes: bool) -> u32
+fn asked(waiting: &mut Waiting, entries: &[Held], turns: u32, wakes: bool) -> u64
     requires { IsQuiet waiting.old entries.now }
 {
-    let mut due = 0u32;
+    let mut due = 0u64;
     for turn in 0..turns {
         if wakes {
             waiting.wake();
@@ -101,6 +86,24 @@ fn put_in(
     accept(spool, table, message, cuts, MOMENT)
 }
 
+fn put_often(
+    spool: &mut MemSpool,
+    table: &mut Table,
+    message: &Message,
+    cuts: &[Cut],
+    count: u32,
+) -> Result<(), StoreFault>
+    requires ready { IsReady (Some (after_all spool.old.past spool.old.start)) table.old }
+    requires message { IsSampleMessage message.now }
+    requires cuts { AreSampleCuts cuts.now }
+    ensures { OnOk result (IsReady (Some (after_all spool.new.past spool.new.start)) table.new) }
+{
+    for _ in 0..count {
+        put_in(spool, table, message, cuts)?;
+    }
+    Ok(())
+}
+
 fn put_all(
     alloc: Global,
     spool: &mut MemSpool,
@@ -110,12 +113,9 @@ fn put_all(
     requires { IsReady (Some (after_all spool.old.past spool.old.start)) table.old }
     ensures { OnOk result (IsReady (Some (after_all spool.new.past spool.new.start)) table.new) }
 {
-    let message = message_of(alloc, CONTROL, BODY, 22)?;
-    let cuts = one_cut(alloc, CONTROL)?;
-    for _ in 0..count {
-        put_in(spool, table, &message, cuts.items())?;
-    }
-    Ok(())
+    let cuts = one_cut(alloc, ONE_ROW)?;
+    let message = message_of(alloc, ONE_ROW, BODY, 22)?;
+    put_often(spool, table, &message, cuts.items(), count)
 }
 
 fn outcomes_of(alloc: Global, each: Result1) -> Result<Outcomes, NoMemory> {
@@ -124,19 +124,25 @@ fn outcomes_of(alloc: Global, each: Result1) -> Result<Outcomes, NoMemory> {
     Ok(Outcomes { results })
 }
 
+/// What a row comes to that is tried again later.
+pub(crate) fn deferred(alloc: Global) -> Result<Outcomes, StoreFault> {
+    match Note::of(b"exit 75") {
+        Some(note) => Ok(outcomes_of(alloc, Result1::Deferred(note))?),
+        None => Err(StoreFault::SpoolFault),
+    }
+}
+
 fn record_all(
-    alloc: Global,
     spool: &mut MemSpool,
     table: &mut Table,
     count: u32,
-    each: Result1,
+    outcomes: &Outcomes,
 ) -> Result<(), StoreFault>
     requires { IsReady (Some (after_all spool.old.past spool.old.start)) table.old }
     ensures { OnOk result (IsReady (Some (after_all spool.new.past spool.new.start)) table.new) }
 {
-    let outcomes = outcomes_of(alloc, each)?;
     for place in 0..count {
-        record(spool, table, place as usize, &outcomes, MOMENT)?;
+        record(spool, table, place as usize, outcomes, MOMENT)?;
     }
     Ok(())
 }
@@ -150,44 +156,38 @@ fn finish_all(spool: &mut MemSpool, table: &mut Table, count: u32) -> Result<(),
     Ok(())
 }
 
-fn changed(
+// Does so many stages, and counts the entries that are left.
+fn change(
     alloc: Global,
     spool: &mut MemSpool,
-    config: &Config,
+    table: &mut Table,
     count: u32,
     stages: u32,
-) -> Result<usize, StoreFault> {
-    let mut table = opened(alloc, spool, config)?;
+) -> Result<u64>
+    requires { IsReady (Some (after_all spool.old.past spool.old.start)) table.old }
+{
     if stages == 0 {
         return Ok(0);
     }
-    put_all(alloc, spool, &mut table, count)?;
+    put_all(alloc, spool, table, count)?;
     if stages == 1 {
-        return Ok(table.entries().len());
+        return Ok(table.entries().len() as u64);
     }
-    record_all(alloc, spool, &mut table, count, Result1::Sent)?;
+    let outcomes = outcomes_of(alloc, Result1::Sent)?;
+    record_all(spool, table, count, &outcomes)?;
     if stages > 2 {
-        finish_all(spool, &mut table, count)?;
+        finish_all(spool, table, count)?;
     }
-    Ok(table.entries().len())
-}
-
-fn deferred() -> Result<Result1, StoreFault> {
-    match Note::of(b"exit 75") {
-        Some(note) => Ok(Result1::Deferred(note)),
-        None => Err(StoreFault::SpoolFault),
-    }
+    Ok(table.entries().len() as u64)
 }
 
 // A table of so many entries that were tried once.
-fn tried(
-    alloc: Global,
-    spool: &mut MemSpool,
-    config: &Config,
-    count: u32,
-) -> Result<Table, StoreFault> {
-    let mut table = opened(alloc, spool, config)?;
-    put_all(alloc, spool, &mut table, count)?;
-    record_all(alloc, spool, &mut table, count, deferred()?)?;
+fn tried(alloc: Global, count: u32) -> Result<Table, StoreFault> {
+    let outcomes = deferred(alloc)?;
+    let config = Config::new(alloc)?;
+    let mut spool = MemSpool::new(alloc, Seq::new(alloc));
+    let mut table = opened(alloc, &mut spool, &config)?;
+    put_all(alloc, &mut spool, &mut table, count)?;
+    record_all(&mut spool, &mut table, count, &outcomes)?;
     Ok(table)
 }

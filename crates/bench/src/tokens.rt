@@ -1,6 +1,6 @@
-//! Cuts a text of a mebibyte into tokens, of the kind `mixed`, `words` or `comment`, the first
-//! where that is left out, or as sides of rules, of the kind `sides` or `side_words`, and tells
-//! what it gave.
+//! Cuts a text of a mebibyte into tokens, of the kind `mixed`, `words` or `comment`, or as sides of
+//! rules, of the kind `sides` or `side_words`, and counts the tokens, none where the text is
+//! refused.
 
 use addr_tokens::{ScanFault, lexemes, tokens};
 use anyhow::{Result, bail};
@@ -10,7 +10,7 @@ use std::alloc::Global;
 const SIZE: usize = 1_048_576;
 
 /// What the text repeats.
-#[derive(Clone, Copy, Drop)]
+#[derive(Clone, Copy)]
 enum Kind {
     /// Addresses with quoted strings, comments and angles.
     Mixed,
@@ -24,16 +24,22 @@ enum Kind {
     SideWords,
 }
 
-pub(crate) fn answer(alloc: Global, kind: Option<&str>, rounds: u32) -> Result<String> {
-    let kind = match kind {
-        None | Some("mixed") => Kind::Mixed,
-        Some("words") => Kind::Words,
-        Some("comment") => Kind::Comment,
-        Some("sides") => Kind::Sides,
-        Some("side_words") => Kind::SideWords,
-        Some(_) => bail!("no kind of text"),
-    };
-    Ok(cut(alloc, kind, rounds)?)
+pub(crate) fn cut(alloc: Global, kind: &str, rounds: u32) -> Result<u64> {
+    let kind = kind_of(kind)?;
+    let text = text_of(alloc, kind)?;
+    let operators = Text::of(alloc, b".:@[]")?;
+    Ok(cut_often(kind, &text, &operators, rounds)?)
+}
+
+fn kind_of(word: &str) -> Result<Kind> {
+    match word {
+        "mixed" => Ok(Kind::Mixed),
+        "words" => Ok(Kind::Words),
+        "comment" => Ok(Kind::Comment),
+        "sides" => Ok(Kind::Sides),
+        "side_words" => Ok(Kind::SideWords),
+        _ => bail!("no kind of text"),
+    }
 }
 
 /// The text of a kind.
@@ -59,30 +65,29 @@ fn byte_at(kind: Kind, place: usize) -> u8 {
     }
 }
 
-/// Cuts the text so often, and tells how many tokens it has.
-fn cut(alloc: Global, kind: Kind, rounds: u32) -> Result<String, NoMemory> {
-    let text = text_of(alloc, kind)?;
-    let operators = Text::of(alloc, b".:@[]")?;
-    let mut answer = String::new(alloc);
+fn cut_often(kind: Kind, text: &Text, operators: &Text, rounds: u32) -> Result<u64, NoMemory> {
+    let mut count = 0;
     for _ in 0..rounds {
-        answer = match count_of(alloc, kind, &text, &operators) {
-            Ok(count) => format!(in alloc; "{count} tokens")?,
-            Err(ScanFault::NoMemory) => return Err(NoMemory),
-            Err(fault) => format!(in alloc; "{fault}")?,
-        };
+        count = told(count_of(kind, text, operators))?;
     }
-    Ok(answer)
+    Ok(count)
 }
 
-fn count_of(alloc: Global, kind: Kind, text: &Text, operators: &Text) -> Result<usize, ScanFault> {
+/// How many there are, none where the text is refused.
+fn told(count: Result<u64, ScanFault>) -> Result<u64, NoMemory> {
+    match count {
+        Ok(count) => Ok(count),
+        Err(ScanFault::NoMemory) => Err(NoMemory),
+        Err(_) => Ok(0),
+    }
+}
+
+fn count_of(kind: Kind, text: &Text, operators: &Text) -> Result<u64, ScanFault> {
+    let alloc = text.allocator();
     match kind {
         Kind::Mixed | Kind::Words | Kind::Comment => {
-            let tokens = tokens(alloc, text, operators, true)?;
-            Ok(tokens.len())
+            Ok(tokens(alloc, text, operators, true)?.len() as u64)
         }
-        Kind::Sides | Kind::SideWords => {
-            let lexemes = lexemes(alloc, text, operators, false)?;
-            Ok(lexemes.len())
-        }
+        Kind::Sides | Kind::SideWords => Ok(lexemes(alloc, text, operators, false)?.len() as u64),
     }
 }
