@@ -3,7 +3,8 @@
 # of them must change nothing. A disk without room (ENOSPC in a write to the queue), and an error in a sync, in a close of
 # a file of the queue or in the renaming, must be status 75 with no 250 for the message, and the message's control
 # file may be there only where the renaming was made. The syncs of a message must be those of its body, of its control
-# text and of the directory, in this order. It ends with status 1 otherwise. Build the program first, by `make run`.
+# text and of the directory, in this order. A program must get its text where no pipe can be had for that, or none with
+# room (EAGAIN in its write). It ends with status 1 otherwise. Build the program first, by `make run`.
 # It wants strace. This is no part of the gate.
 set -euo pipefail
 . "$(dirname "$0")/session.sh"
@@ -80,3 +81,26 @@ fsync EIO . 3
 close EIO mqueue/[dt]f none
 rename EIO . none
 ROWS
+
+# Delivers the message that was served, while strace lets a call fail where that is asked for.
+deliver() {
+    rm -f "$work/text"
+    strace -y -o "$work/calls" -e trace=pipe2,write "$@" "$program" -q "-C$work/kept.cf" > "$work/replies" 2> "$work/errors"
+    [ "$(find "$queue" -name 'qf*' | wc -l)" = 0 ]
+}
+
+printf '#!/bin/sh\ncat > %s/text\n' "$work" > "$work/keeps"
+chmod +x "$work/keeps"
+sed "s#/nonexistent/mail#$work/keeps#" "$work/local.cf" > "$work/kept.cf"
+serve -e trace=fsync
+status=0
+deliver && grep -q '^pipe2' "$work/calls" && grep -q hello "$work/text" || failed 'a delivery'
+cp "$work/text" "$work/wanted"
+writes=$(awk '/^write\(/ { count++ } /^write\([0-9]+<pipe:/ { print count; exit }' "$work/calls")
+for fault in pipe2:error=EMFILE "write:error=EAGAIN:when=$writes"; do
+    serve -e trace=fsync
+    status=0
+    deliver -e inject="$fault" && grep -q INJECTED "$work/calls" && sed 1,4d "$work/text" |
+        cmp -s - <(sed 1,4d "$work/wanted") || failed "$fault in a delivery"
+    echo "${fault%%:when*} in a delivery: the program gets its text"
+done
