@@ -117,6 +117,8 @@ impl<'a> QueueDirs<'a> {
     {
         let place = self.hold(dir)?;
         let path = path_of(self.prefix, dir, name)?;
+        // A write that fails may leave other bytes at the path that was written last.
+        self.written = None;
         let written = if is_of(name, Kind::Tf) {
             Some(Written {
                 path: Text::of(self.alloc, &path)?,
