@@ -3,8 +3,10 @@
 //! of what a [`Judge`] says of their paths.
 #![tactic(auto)]
 
+mod content;
 mod did;
 mod ending;
+mod envelope;
 mod judge;
 mod law;
 mod path;

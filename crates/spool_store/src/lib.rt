@@ -3,6 +3,7 @@
 //! `specs/Settled.antt`.
 #![tactic(auto)]
 
+mod commit;
 mod fault;
 mod finishes;
 mod held;
