@@ -2,6 +2,8 @@
 #![tactic(auto)]
 
 #[cfg(test)]
+mod late;
+#[cfg(test)]
 mod queues;
 #[cfg(test)]
 mod views;
