@@ -1,21 +1,14 @@
 // What a book finds by a name, and what is added at a place of it.
-use mail_base::{
-    Book, Buckets, Go, NoMemory, Pattern, Rule, RuleSet, Seq, Template, Text, TryCopy,
-};
+use crate::configs::rule;
+use mail_base::{Book, Buckets, NoMemory, RuleSet, Text, TryCopy, texts_of};
 use std::alloc::Global;
 use std::test::Fail;
 
-fn set_of(alloc: Global, name: &[u8]) -> Result<RuleSet, NoMemory> {
-    let mut names = Seq::new(alloc);
-    names.push(Text::of(alloc, name)?)?;
-    Ok(RuleSet::of(names, Buckets::new(alloc)))
-}
-
 /// A book of rulesets of these names, of which the third has a second name, `late`.
-fn book_of(alloc: Global, names: &[&[u8]]) -> Result<Book, NoMemory> {
+pub(crate) fn book_of(alloc: Global, names: &[&[u8]]) -> Result<Book, NoMemory> {
     let mut book = Book::new(alloc);
     for name in names {
-        book.push(set_of(alloc, name)?)?;
+        book.push(RuleSet::of(texts_of(alloc, &[name])?, Buckets::new(alloc)))?;
     }
     if book.sets().len() > 2 {
         book.push_name(2, Text::of(alloc, b"late")?)?;
@@ -23,8 +16,10 @@ fn book_of(alloc: Global, names: &[&[u8]]) -> Result<Book, NoMemory> {
     Ok(book)
 }
 
+type Row = (&'static [&'static [u8]], &'static [u8], Option<usize>);
+
 /// Names of a book, a name, and where the first ruleset of that name stands.
-static PLACES: [(&[&[u8]], &[u8], Option<usize>); 9] = [
+static PLACES: [Row; 9] = [
     (&[], b"one", None),
     (&[b"one"], b"ONE", Some(0)),
     (&[b"one", b"Two", b"three"], b"two", Some(1)),
@@ -39,40 +34,30 @@ static PLACES: [(&[&[u8]], &[u8], Option<usize>); 9] = [
 
 /// Whether a book and its copy find the name at that place, and have the ruleset that stands
 /// there.
-fn finds(book: &Book, name: &Text, place: Option<usize>) -> Result<bool, NoMemory> {
+fn finds(alloc: Global, row: &Row) -> Result<bool, NoMemory> {
+    let name = Text::of(alloc, row.1)?;
+    let book = book_of(alloc, row.0)?;
     let copied = book.copy()?;
-    let there = book.get(name).is_some();
-    let same = copied.place_of(name) == place && copied.sets().len() == book.sets().len();
-    Ok(same && book.place_of(name) == place && there == place.is_some())
+    Ok(
+        book.place_of(&name) == row.2
+            && book.get(&name).is_some() == row.2.is_some()
+            && copied.place_of(&name) == row.2
+            && copied.sets().len() == book.sets().len(),
+    )
 }
 
 #[test]
 fn rulesets_are_found_by_their_names(rt: HostRuntime) -> Result<(), Fail> {
-    for (names, name, place) in &PLACES {
-        let book = book_of(rt.alloc(), names)?;
-        let finds = finds(&book, &Text::of(rt.alloc(), name)?, *place)?;
-        assert!(rt; finds);
+    for (at, row) in PLACES.iter().enumerate() {
+        assert!(rt; finds(rt.alloc(), row)?, "row {at}");
     }
     Ok(())
 }
 
-fn empty_rule(alloc: Global) -> Result<Rule, Fail> {
-    let Some(left) = Pattern::of(Seq::new(alloc)) else {
-        return Err(Fail::from("many signs"));
-    };
-    let steps = Seq::new(alloc);
-    let right = Template {
-        go: Go::Next,
-        steps,
-    };
-    Ok(Rule { left, right })
-}
-
 fn grown(alloc: Global) -> Result<Book, Fail> {
     let mut book = book_of(alloc, &[b"one", b"two"])?;
-    let rule = empty_rule(alloc)?;
     if book.sets().len() > 1 {
-        book.push_rule(1, rule)?;
+        book.push_rule(1, rule(alloc)?)?;
     }
     Ok(book)
 }

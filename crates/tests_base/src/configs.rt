@@ -1,7 +1,10 @@
+use crate::books::book_of;
+use crate::classes::members;
+use crate::rules::items;
 use mail_base::{
-    Book, Buckets, Catalog, Classes, Config, DaemonPort, Go, Group, HeaderLine, Item, Lookup,
-    Mailer, MapClass, MapLine, Member, NoMemory, Options, Pattern, Piece, Precedence, Query, Rule,
-    RuleSet, Seq, Step, Template, Text, Token, TryCopy, Word, texts_of,
+    Book, Catalog, Classes, Config, DaemonPort, Go, Group, HeaderLine, Lookup, Mailer, MapClass,
+    MapLine, Member, NoMemory, Options, Pattern, Piece, Precedence, Query, Rule, RuleSet, Seq,
+    Step, Template, Text, Token, TryCopy, texts_of,
 };
 use std::alloc::Global;
 use std::test::Fail;
@@ -36,29 +39,12 @@ fn presets_stand_before_any_line(rt: HostRuntime) -> Result<(), Fail> {
     Ok(())
 }
 
-fn smtp(alloc: Global) -> Result<Mailer, NoMemory> {
+fn mailer(alloc: Global, name: &[u8], path: &[u8]) -> Result<Mailer, NoMemory> {
     Ok(Mailer {
-        name: Text::new(alloc),
-        path: Text::of(alloc, b"[IPC]")?,
-        flags: Text::of(alloc, b"mDFMuX")?,
-        line_end: Text::new(alloc),
-        envelope_from: None,
-        header_from: None,
-        envelope_to: Some(Text::of(alloc, b"11")?),
-        header_to: None,
-        most: 0,
-        group: Some(Text::of(alloc, b"bulk")?),
-        args: texts_of(alloc, &[b"TCP", b"$h"])?,
-        batch: 100,
-    })
-}
-
-fn local(alloc: Global) -> Result<Mailer, NoMemory> {
-    Ok(Mailer {
-        name: Text::of(alloc, b"Local")?,
-        path: Text::of(alloc, b"/bin/mail")?,
+        name: Text::of(alloc, name)?,
+        path: Text::of(alloc, path)?,
         flags: Text::new(alloc),
-        line_end: Text::of(alloc, b"\n")?,
+        line_end: Text::new(alloc),
         envelope_from: None,
         header_from: None,
         envelope_to: None,
@@ -70,43 +56,28 @@ fn local(alloc: Global) -> Result<Mailer, NoMemory> {
     })
 }
 
+fn fill_mailer(alloc: Global, mailer: &mut Mailer) -> Result<(), NoMemory> {
+    mailer.flags.extend(b"mDFMuX")?;
+    mailer.line_end.push(b'\n')?;
+    mailer.envelope_to = Some(Text::of(alloc, b"11")?);
+    mailer.group = Some(Text::of(alloc, b"bulk")?);
+    mailer.args = texts_of(alloc, &[b"TCP", b"$h"])?;
+    Ok(())
+}
+
 fn add_mailers(alloc: Global, mailers: &mut Catalog<Mailer>) -> Result<(), NoMemory> {
-    let name = Text::of(alloc, b"smtp")?;
-    mailers.set(name, smtp(alloc)?)?;
-    let name = Text::of(alloc, b"local")?;
-    mailers.set(name, local(alloc)?)
-}
-
-fn bulk(alloc: Global) -> Result<Group, NoMemory> {
-    Ok(Group {
-        name: Text::of(alloc, b"bulk")?,
-        path: Text::of(alloc, b"/q/bulk")?,
-        recipients: 100,
-        runners: 1,
-        interval: None,
-        jobs: 0,
-    })
-}
-
-fn member(alloc: Global) -> Result<Member, NoMemory> {
-    let mut tokens = Seq::new(alloc);
-    tokens.push(Token::Quoted(Word::of(alloc, b"\"a b\"")?))?;
-    Ok(Member {
-        text: Text::of(alloc, b"\"a b\"")?,
-        tokens: Some(tokens),
-    })
+    let mut smtp = mailer(alloc, b"", b"[IPC]")?;
+    fill_mailer(alloc, &mut smtp)?;
+    mailers.set(Text::of(alloc, b"smtp")?, smtp)?;
+    mailers.set(
+        Text::of(alloc, b"local")?,
+        mailer(alloc, b"Local", b"/bin/mail")?,
+    )
 }
 
 fn add_members(alloc: Global, classes: &mut Classes) -> Result<(), NoMemory> {
     let name = Text::of(alloc, b"w")?;
-    let mut members = Seq::new(alloc);
-    members.push(member(alloc)?)?;
-    let uncut = Member {
-        text: Text::of(alloc, b"\"")?,
-        tokens: None,
-    };
-    members.push(uncut)?;
-    classes.extend(&name, members)
+    classes.extend(&name, members(alloc, &[b"\"a\" b", b"(b"])?)
 }
 
 /// The class of a map, by its place below.
@@ -117,7 +88,7 @@ fn class(alloc: Global, place: u8) -> Result<MapClass, NoMemory> {
         2 => Ok(MapClass::Btree),
         3 => Ok(MapClass::Host),
         4 => Ok(MapClass::Dequote),
-        5 => Ok(MapClass::Sequence(sequence(alloc)?)),
+        5 => Ok(MapClass::Sequence(Seq::from_vec(Vec::from_slice(alloc, &[0, 2])?))),
         6 => Ok(MapClass::Null),
         7 => Ok(MapClass::Arith),
         8 => Ok(MapClass::Macro),
@@ -138,13 +109,6 @@ fn place(class: &MapClass) -> u8 {
         MapClass::Macro => 8,
         MapClass::Other(_) => 9,
     }
-}
-
-fn sequence(alloc: Global) -> Result<Seq<u32>, NoMemory> {
-    let mut members = Seq::new(alloc);
-    members.push(0)?;
-    members.push(2)?;
-    Ok(members)
 }
 
 /// A map of a class, whose place is its column of the key.
@@ -168,21 +132,6 @@ fn add_maps(alloc: Global, maps: &mut Seq<MapLine>) -> Result<(), NoMemory> {
         maps.push(map(alloc, place)?)?;
     }
     Ok(())
-}
-
-fn received(alloc: Global) -> Result<HeaderLine, NoMemory> {
-    Ok(HeaderLine {
-        flags: Text::of(alloc, b"DF")?,
-        name: Text::of(alloc, b"Received")?,
-        template: Text::of(alloc, b"from $s")?,
-    })
-}
-
-fn bulk_class(alloc: Global) -> Result<Precedence, NoMemory> {
-    Ok(Precedence {
-        name: Text::of(alloc, b"bulk")?,
-        class: -60,
-    })
 }
 
 fn cut(alloc: Global, number: u8) -> Result<Seq<Piece>, NoMemory> {
@@ -217,42 +166,47 @@ fn steps(alloc: Global) -> Result<Seq<Step>, NoMemory> {
 }
 
 fn left(alloc: Global) -> Result<Pattern, Fail> {
-    let mut items = Seq::new(alloc);
-    items.push(Item::Any)?;
-    Ok(Pattern::of(items).ok_or("one is few")?)
+    Ok(Pattern::of(items(alloc, b"*")?).ok_or("one is few")?)
 }
 
-fn right(alloc: Global) -> Result<Template, NoMemory> {
-    Ok(Template {
-        go: Go::Next,
-        steps: steps(alloc)?,
-    })
-}
-
-fn add_rule(alloc: Global, set: &mut RuleSet) -> Result<(), Fail> {
+pub(crate) fn rule(alloc: Global) -> Result<Rule, Fail> {
     let left = left(alloc)?;
-    let right = right(alloc)?;
-    Ok(set.push(Rule { left, right })?)
+    let steps = steps(alloc)?;
+    let right = Template {
+        go: Go::Next,
+        steps,
+    };
+    Ok(Rule { left, right })
 }
 
-fn add_ruleset(alloc: Global, book: &mut Book) -> Result<(), Fail> {
-    let names = texts_of(alloc, &[b"parse"])?;
-    let mut set = RuleSet::of(names, Buckets::new(alloc));
-    add_rule(alloc, &mut set)?;
-    Ok(book.push(set)?)
+fn set_book(alloc: Global, book: &mut Book) -> Result<(), Fail> {
+    *book = book_of(alloc, &[b"parse"])?;
+    if !book.sets().is_empty() {
+        book.push_rule(0, rule(alloc)?)?;
+    }
+    Ok(())
 }
 
 fn add_group(alloc: Global, groups: &mut Catalog<Group>) -> Result<(), NoMemory> {
     let name = Text::of(alloc, b"bulk")?;
-    groups.set(name, bulk(alloc)?)
+    let mut bulk = Group::new(name.copy()?, Text::of(alloc, b"/q/bulk")?);
+    bulk.recipients = 100;
+    groups.set(name, bulk)
 }
 
 fn add_header(alloc: Global, headers: &mut Seq<HeaderLine>) -> Result<(), NoMemory> {
-    headers.push(received(alloc)?)
+    headers.push(HeaderLine {
+        flags: Text::of(alloc, b"DF")?,
+        name: Text::of(alloc, b"Received")?,
+        template: Text::of(alloc, b"from $s")?,
+    })
 }
 
 fn add_precedence(alloc: Global, lines: &mut Seq<Precedence>) -> Result<(), NoMemory> {
-    lines.push(bulk_class(alloc)?)
+    lines.push(Precedence {
+        name: Text::of(alloc, b"bulk")?,
+        class: -60,
+    })
 }
 
 fn set_port(alloc: Global, port: &mut DaemonPort) -> Result<(), NoMemory> {
@@ -273,7 +227,7 @@ fn fill_lines(alloc: Global, config: &mut Config) -> Result<(), Fail> {
     add_header(alloc, &mut config.headers)?;
     add_precedence(alloc, &mut config.precedences)?;
     config.warnings.push(7)?;
-    add_ruleset(alloc, &mut config.book)
+    set_book(alloc, &mut config.book)
 }
 
 /// A configuration with something of each type that a configuration holds.
@@ -334,7 +288,7 @@ fn are_maps(maps: &[MapLine]) -> bool {
 fn are_members(members: &[Member]) -> bool {
     match members {
         [_, cut, uncut] => {
-            cut.text.bytes() == b"\"a b\"".as_slice()
+            cut.text.bytes() == b"\"a\" b".as_slice()
                 && cut.tokens.is_some()
                 && uncut.tokens.is_none()
         }
@@ -349,7 +303,7 @@ fn are_args(args: &[Text]) -> bool {
     }
 }
 
-fn is_word(text: Option<&Text>, word: &[u8]) -> bool {
+pub(crate) fn is_word(text: Option<&Text>, word: &[u8]) -> bool {
     match text {
         Some(text) => text.bytes() == word,
         None => false,
@@ -466,8 +420,14 @@ static MAILERS: [(&[u8], Option<&[u8]>); 6] = [
     (b"uucp", None),
 ];
 
-fn names(config: &Config, name: &Text, path: Option<&[u8]>) -> Result<bool, NoMemory> {
-    match (config.mailer(name), path) {
+fn finds(
+    alloc: Global,
+    config: &Config,
+    name: &[u8],
+    path: Option<&[u8]>,
+) -> Result<bool, NoMemory> {
+    let name = Text::of(alloc, name)?;
+    match (config.mailer(&name), path) {
         (Some(mailer), Some(path)) => Ok(mailer.path.bytes() == path),
         (None, None) => Ok(true),
         _ => Ok(false),
@@ -477,10 +437,8 @@ fn names(config: &Config, name: &Text, path: Option<&[u8]>) -> Result<bool, NoMe
 #[test]
 fn mailers_are_found_without_case(rt: HostRuntime) -> Result<(), Fail> {
     let config = filled(rt.alloc())?;
-    for (name, path) in &MAILERS {
-        let name = Text::of(rt.alloc(), name)?;
-        let names = names(&config, &name, *path)?;
-        assert!(rt; names);
+    for (at, (name, path)) in MAILERS.iter().enumerate() {
+        assert!(rt; finds(rt.alloc(), &config, name, *path)?, "row {at}");
     }
     Ok(())
 }

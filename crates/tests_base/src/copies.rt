@@ -31,7 +31,7 @@ fn marks() -> Marks {
 }
 
 /// Why an address goes nowhere, by its place below.
-fn cause(alloc: Global, place: u16) -> Result<Cause, NoMemory> {
+pub(crate) fn cause(alloc: Global, place: u16) -> Result<Cause, NoMemory> {
     match place {
         0 => Ok(Cause::Loop),
         1 => Ok(Cause::Deep),
@@ -120,14 +120,14 @@ fn draws(alloc: Global) -> Result<Seq<Draw>, Fail> {
 fn bounce(alloc: Global) -> Result<Message, Fail> {
     Ok(Message {
         sender: Text::of(alloc, b"<>")?,
-        headers: Seq::new(alloc),
         body: Text::of(alloc, b"hello\r\n")?,
+        rows: draws(alloc)?,
+        kept: kept(alloc)?,
+        headers: Seq::new(alloc),
         size: 22,
         class: 0,
         eight: false,
         marks: marks(),
-        rows: draws(alloc)?,
-        kept: kept(alloc)?,
     })
 }
 
@@ -219,32 +219,22 @@ fn goes_back(back: &Back) -> Result<bool, NoMemory> {
     Ok(is_bounce(&copied.message) && are_cut(copied.cuts.items()))
 }
 
-#[test]
-fn messages_go_back_in_cuts(rt: HostRuntime) -> Result<(), Fail> {
-    let back = back(rt.alloc())?;
-    assert!(rt; goes_back(&back)?);
-    Ok(())
-}
-
 /// What is copied is apart from its copy.
-fn other_kept(alloc: Global) -> Result<bool, NoMemory> {
-    let kept = kept(alloc)?;
+fn is_apart(kept: &Kept) -> Result<bool, NoMemory> {
     let mut other = kept.copy()?;
     other.client.push(b'1')?;
-    Ok(is_kept(&kept) && !is_kept(&other))
+    Ok(is_kept(kept) && !is_kept(&other))
 }
 
 #[test]
-fn kept_macros_and_marks_are_compared(rt: HostRuntime) -> Result<(), Fail> {
-    assert!(rt; other_kept(rt.alloc())?);
+fn marks_are_compared(rt: HostRuntime) {
     let mut other = marks();
     assert!(rt; other == marks());
     other.warned = true;
     assert!(rt; other != marks());
-    Ok(())
 }
 
-fn state(place: u8) -> Result<State, Fail> {
+pub(crate) fn state(place: u8) -> Result<State, Fail> {
     match place {
         0 => Ok(State::Queued(None)),
         1 => Ok(State::Queued(Some(note()?))),
@@ -342,16 +332,9 @@ fn is_entry(entry: &Entry) -> bool {
     entry.id == Id::new(7) && entry.dir.bytes() == b"/q".as_slice() && is_child(&entry.control)
 }
 
-fn is_entry_copied(entry: &Entry) -> Result<bool, NoMemory> {
-    let copied = entry.copy()?;
-    Ok(is_entry(&copied))
-}
-
-#[test]
-fn entries_are_copied(rt: HostRuntime) -> Result<(), Fail> {
-    let entry = entry(rt.alloc())?;
-    assert!(rt; is_entry_copied(&entry)?);
-    Ok(())
+fn is_entry_copied(alloc: Global) -> Result<bool, Fail> {
+    let entry = entry(alloc)?;
+    Ok(is_entry(&entry.copy()?))
 }
 
 fn draft(alloc: Global, id: Option<Id>) -> Result<Draft, Fail> {
@@ -373,33 +356,18 @@ fn is_draft(draft: &Draft, id: Option<Id>) -> bool {
     draft.id == id && draft.dir.bytes() == b"/q/bulk".as_slice() && is_child(&draft.control)
 }
 
-fn is_draft_copied(draft: &Draft, id: Option<Id>) -> Result<bool, NoMemory> {
-    let copied = draft.copy()?;
-    Ok(is_draft(&copied, id))
+fn is_draft_copied(alloc: Global, id: Option<Id>) -> Result<bool, Fail> {
+    let draft = draft(alloc, id)?;
+    Ok(is_draft(&draft.copy()?, id))
 }
 
 fn is_stray(stray: &Stray) -> bool {
     stray.dir.bytes() == b"/q".as_slice() && stray.name.bytes() == b"qfAAA123".as_slice()
 }
 
-fn is_stray_copied(stray: &Stray) -> Result<bool, NoMemory> {
-    let copied = stray.copy()?;
-    Ok(is_stray(&copied))
-}
-
-fn copies_draft(alloc: Global, id: Option<Id>) -> Result<bool, Fail> {
-    let draft = draft(alloc, id)?;
-    Ok(is_draft_copied(&draft, id)?)
-}
-
-#[test]
-fn drafts_and_strays_are_copied(rt: HostRuntime) -> Result<(), Fail> {
-    for id in [None, Some(Id::new(3))] {
-        assert!(rt; copies_draft(rt.alloc(), id)?);
-    }
-    let stray = stray(rt.alloc())?;
-    assert!(rt; is_stray_copied(&stray)?);
-    Ok(())
+fn is_stray_copied(alloc: Global) -> Result<bool, Fail> {
+    let stray = stray(alloc)?;
+    Ok(is_stray(&stray.copy()?))
 }
 
 fn result(place: u8) -> Result<Result1, Fail> {
@@ -429,16 +397,10 @@ fn are_results(results: &[Result1]) -> bool {
     }
 }
 
-fn copied_outcomes(alloc: Global) -> Result<bool, Fail> {
+fn are_outcomes_copied(alloc: Global) -> Result<bool, Fail> {
     let outcomes = outcomes(alloc)?;
     let copied = outcomes.copy()?;
     Ok(are_results(copied.results.items()))
-}
-
-#[test]
-fn outcomes_are_copied(rt: HostRuntime) -> Result<(), Fail> {
-    assert!(rt; copied_outcomes(rt.alloc())?);
-    Ok(())
 }
 
 fn split(alloc: Global) -> Result<Split, NoMemory> {
@@ -449,14 +411,51 @@ fn split(alloc: Global) -> Result<Split, NoMemory> {
     })
 }
 
-fn is_split(alloc: Global) -> Result<bool, NoMemory> {
-    let split = split(alloc)?;
+fn is_split_copied(split: &Split) -> Result<bool, NoMemory> {
     let copied = split.copy()?;
     Ok(copied.body.bytes() == b"hello".as_slice() && copied.headers.is_empty())
 }
 
+/// What is copied.
+enum Kind {
+    Message,
+    Kept,
+    Entry,
+    NewDraft,
+    Draft,
+    Stray,
+    Outcomes,
+    Split,
+}
+
+static KINDS: [(Kind, &str); 8] = [
+    (Kind::Message, "a message that goes back in cuts"),
+    (Kind::Kept, "macros that are kept"),
+    (Kind::Entry, "an entry"),
+    (Kind::NewDraft, "the draft of a new entry"),
+    (Kind::Draft, "the draft of an entry"),
+    (Kind::Stray, "a stray file"),
+    (Kind::Outcomes, "outcomes"),
+    (Kind::Split, "a text that is split"),
+];
+
+fn is_copied(alloc: Global, kind: &Kind) -> Result<bool, Fail> {
+    match kind {
+        Kind::Message => Ok(goes_back(&back(alloc)?)?),
+        Kind::Kept => Ok(is_apart(&kept(alloc)?)?),
+        Kind::Entry => is_entry_copied(alloc),
+        Kind::NewDraft => is_draft_copied(alloc, None),
+        Kind::Draft => is_draft_copied(alloc, Some(Id::new(3))),
+        Kind::Stray => is_stray_copied(alloc),
+        Kind::Outcomes => are_outcomes_copied(alloc),
+        Kind::Split => Ok(is_split_copied(&split(alloc)?)?),
+    }
+}
+
 #[test]
-fn splits_are_copied(rt: HostRuntime) -> Result<(), Fail> {
-    assert!(rt; is_split(rt.alloc())?);
+fn copies_are_as_what_is_copied(rt: HostRuntime) -> Result<(), Fail> {
+    for (kind, name) in &KINDS {
+        assert!(rt; is_copied(rt.alloc(), kind)?, "{name}");
+    }
     Ok(())
 }

@@ -1,41 +1,74 @@
-use mail_base::{EdgeFault, Failed, JudgeFault, NoMemory, StoreFault};
+use crate::copies::cause;
+use mail_base::{EdgeFault, Failed, JudgeFault, LineFault, NoMemory, StoreFault, Verb};
 use std::alloc::Global;
 use std::fmt::Display;
 use std::test::Fail;
 
-static EDGE: [(EdgeFault, &str); 2] = [
-    (EdgeFault::Failed, "the device failed"),
-    (EdgeFault::NoMemory, "no memory"),
+/// A fault of any kind.
+enum Fault {
+    Memory,
+    Device,
+    Edge(EdgeFault),
+    Store(StoreFault),
+    Judge(JudgeFault),
+    Line(LineFault),
+}
+
+/// Faults, with their texts.
+static FAULTS: [(Fault, &str); 16] = [
+    (Fault::Memory, "no memory"),
+    (Fault::Device, "the device failed"),
+    (Fault::Edge(EdgeFault::Failed), "the device failed"),
+    (Fault::Edge(EdgeFault::NoMemory), "no memory"),
+    (Fault::Store(StoreFault::SpoolFault), "the spool failed"),
+    (Fault::Store(StoreFault::IdsSpent), "all ids are spent"),
+    (Fault::Store(StoreFault::NoMemory), "no memory"),
+    (Fault::Judge(JudgeFault::FilesFault), "a file can't be read"),
+    (Fault::Judge(JudgeFault::NoMemory), "no memory"),
+    (
+        Fault::Line(LineFault::BadByte),
+        "a byte that no command holds",
+    ),
+    (Fault::Line(LineFault::Unknown), "an unknown verb"),
+    (
+        Fault::Line(LineFault::ArgumentNeeded),
+        "an argument is needed",
+    ),
+    (Fault::Line(LineFault::NoArgument), "no argument is allowed"),
+    (
+        Fault::Line(LineFault::Syntax(Verb::Mail)),
+        "the path isn't in the grammar",
+    ),
+    (
+        Fault::Line(LineFault::PathTooLong(Verb::Rcpt)),
+        "the path is too long",
+    ),
+    (
+        Fault::Line(LineFault::Parameter(Verb::Mail)),
+        "an unknown parameter",
+    ),
 ];
 
-static STORE: [(StoreFault, &str); 3] = [
-    (StoreFault::SpoolFault, "the spool failed"),
-    (StoreFault::IdsSpent, "all ids are spent"),
-    (StoreFault::NoMemory, "no memory"),
-];
+fn is_shown(alloc: Global, fault: &impl Display, text: &str) -> Result<bool, Fail> {
+    let shown = format!(in alloc; "{fault}")?;
+    Ok(shown.as_str() == text)
+}
 
-static JUDGE: [(JudgeFault, &str); 2] = [
-    (JudgeFault::FilesFault, "a file can't be read"),
-    (JudgeFault::NoMemory, "no memory"),
-];
-
-fn says(alloc: Global, fault: &impl Display, text: &str) -> Result<bool, Fail> {
-    let said = format!(in alloc; "{fault}")?;
-    Ok(said.as_str() == text)
+fn says(alloc: Global, fault: &Fault, text: &str) -> Result<bool, Fail> {
+    match fault {
+        Fault::Memory => is_shown(alloc, &NoMemory, text),
+        Fault::Device => is_shown(alloc, &Failed, text),
+        Fault::Edge(fault) => is_shown(alloc, fault, text),
+        Fault::Store(fault) => is_shown(alloc, fault, text),
+        Fault::Judge(fault) => is_shown(alloc, fault, text),
+        Fault::Line(fault) => is_shown(alloc, fault, text),
+    }
 }
 
 #[test]
 fn faults_say_what_they_are(rt: HostRuntime) -> Result<(), Fail> {
-    assert!(rt; says(rt.alloc(), &NoMemory, "no memory")?);
-    assert!(rt; says(rt.alloc(), &Failed, "the device failed")?);
-    for (fault, text) in &EDGE {
-        assert!(rt; says(rt.alloc(), fault, text)?, "{text}");
-    }
-    for (fault, text) in &STORE {
-        assert!(rt; says(rt.alloc(), fault, text)?, "{text}");
-    }
-    for (fault, text) in &JUDGE {
-        assert!(rt; says(rt.alloc(), fault, text)?, "{text}");
+    for (at, (fault, text)) in FAULTS.iter().enumerate() {
+        assert!(rt; says(rt.alloc(), fault, text)?, "row {at}");
     }
     Ok(())
 }
@@ -46,4 +79,26 @@ fn faults_keep_want_of_memory_apart(rt: HostRuntime) {
     assert!(rt; EdgeFault::from(Failed) == EdgeFault::Failed);
     assert!(rt; StoreFault::from(NoMemory) == StoreFault::NoMemory);
     assert!(rt; JudgeFault::from(NoMemory) == JudgeFault::NoMemory);
+}
+
+/// The names of some causes, by their places in `cause`.
+static NAMES: [(u16, &[u8]); 5] = [
+    (0, b"Loop"),
+    (3, b"NoRuleset"),
+    (7, b"Long"),
+    (9, b"Long"),
+    (11, b"UnknownMailer"),
+];
+
+fn has_name(alloc: Global, place: u16, name: &[u8]) -> Result<bool, NoMemory> {
+    let cause = cause(alloc, place)?;
+    Ok(cause.name() == name)
+}
+
+#[test]
+fn causes_have_names(rt: HostRuntime) -> Result<(), Fail> {
+    for (place, name) in &NAMES {
+        assert!(rt; has_name(rt.alloc(), *place, name)?, "cause {place}");
+    }
+    Ok(())
 }

@@ -1,91 +1,79 @@
+use crate::copies::state;
 use mail_base::{Id, Kind, NoMemory, Note, Status, Text, TryCopy};
 use std::alloc::Global;
 use std::test::Fail;
 
-/// Ids with their names.
-static NAMES: [(Kind, u64, &[u8]); 6] = [
-    (Kind::Qf, 42, b"qfw000000000042"),
-    (Kind::Df, 999_999_999_999, b"dfw999999999999"),
-    (Kind::Tf, 3, b"tfw000000000003"),
-    (Kind::Sf, 999_999_999_999, b"sfw999999999999"),
-    (Kind::Df, 0, b"dfw000000000000"),
-    (Kind::Qf, 123_456_789_012, b"qfw123456789012"),
+/// Names of files, with their kinds and ids, or `None` where they are the name of no id.
+static NAMES: [(&[u8], Option<(Kind, u64)>); 15] = [
+    (b"qfw000000000042", Some((Kind::Qf, 42))),
+    (b"dfw999999999999", Some((Kind::Df, 999_999_999_999))),
+    (b"tfw000000000003", Some((Kind::Tf, 3))),
+    (b"sfw999999999999", Some((Kind::Sf, 999_999_999_999))),
+    (b"dfw000000000000", Some((Kind::Df, 0))),
+    (b"qfw123456789012", Some((Kind::Qf, 123_456_789_012))),
+    (b"", None),
+    (b"dfw00000000001", None),
+    (b"dfw0000000000001", None),
+    (b"xfw000000000001", None),
+    (b"dgw000000000001", None),
+    (b"df0000000000001", None),
+    (b"dfw00000000000a", None),
+    (b"dfw-00000000001", None),
+    (b"DFw000000000001", None),
 ];
 
-/// Names of no id.
-static OTHERS: [&[u8]; 9] = [
-    b"",
-    b"dfw00000000001",
-    b"dfw0000000000001",
-    b"xfw000000000001",
-    b"dgw000000000001",
-    b"df0000000000001",
-    b"dfw00000000000a",
-    b"dfw-00000000001",
-    b"DFw000000000001",
-];
-
-fn is_named(kind: Kind, id: Id, name: &Text) -> bool {
+fn is_named(kind: Kind, number: u64, name: &Text) -> bool {
+    if number > Id::MOST {
+        return false;
+    }
+    let id = Id::new(number);
     id.name(kind).bytes() == name.bytes()
         && name.bytes().starts_with(kind.letters().as_slice())
         && Id::of(name) == Some((kind, id))
+        && id.number() == number
 }
 
-fn names(alloc: Global, kind: Kind, number: u64, name: &[u8]) -> Result<bool, NoMemory> {
-    if number > Id::MOST {
-        return Ok(false);
-    }
-    let id = Id::new(number);
+fn tells(alloc: Global, name: &[u8], told: Option<(Kind, u64)>) -> Result<bool, NoMemory> {
     let name = Text::of(alloc, name)?;
-    Ok(is_named(kind, id, &name) && id.number() == number)
+    match told {
+        Some((kind, number)) => Ok(is_named(kind, number, &name)),
+        None => Ok(Id::of(&name).is_none()),
+    }
 }
 
 #[test]
 fn names_tell_their_ids(rt: HostRuntime) -> Result<(), Fail> {
-    for (kind, number, name) in &NAMES {
-        assert!(rt; names(rt.alloc(), *kind, *number, name)?);
+    for (at, (name, told)) in NAMES.iter().enumerate() {
+        assert!(rt; tells(rt.alloc(), name, *told)?, "row {at}");
     }
     Ok(())
 }
 
-fn names_none(alloc: Global, name: &[u8]) -> Result<bool, NoMemory> {
-    let name = Text::of(alloc, name)?;
-    Ok(Id::of(&name).is_none())
-}
-
-#[test]
-fn other_names_tell_none(rt: HostRuntime) -> Result<(), Fail> {
-    for name in &OTHERS {
-        assert!(rt; names_none(rt.alloc(), name)?);
-    }
-    Ok(())
-}
-
-/// Texts, what they are as notes, and whether they are notes as they stand.
-static NOTES: [(&[u8], &[u8], bool); 7] = [
-    (&[b'x'; 600], &[b'x'; 512], false),
-    (&[b'x'; 513], &[b'x'; 512], false),
-    (&[b'x'; 512], &[b'x'; 512], true),
-    (b"two\r\nlines", b"two  lines", false),
-    (b"two\nlines", b"two lines", false),
-    (b"two\rlines", b"two lines", false),
-    (b"exit 75", b"exit 75", true),
+/// Texts, what they are as notes, if anything, and whether they are notes as they stand.
+static NOTES: [(&[u8], Option<&[u8]>, bool); 8] = [
+    (&[b'x'; 600], Some(&[b'x'; 512]), false),
+    (&[b'x'; 513], Some(&[b'x'; 512]), false),
+    (&[b'x'; 512], Some(&[b'x'; 512]), true),
+    (b"two\r\nlines", Some(b"two  lines"), false),
+    (b"two\nlines", Some(b"two lines"), false),
+    (b"two\rlines", Some(b"two lines"), false),
+    (b"exit 75", Some(b"exit 75"), true),
+    (b"", None, false),
 ];
 
-fn is_noted(text: &[u8], noted: &[u8], stands: bool) -> Result<bool, NoMemory> {
+fn is_noted(text: &[u8], noted: Option<&[u8]>) -> Result<bool, NoMemory> {
     match Note::cut(text).copy()? {
-        Some(note) => Ok(note.bytes() == noted && Note::of(text).is_some() == stands),
-        None => Ok(false),
+        Some(note) => Ok(noted == Some(note.bytes()) && note.bytes().len() <= Note::MOST),
+        None => Ok(noted.is_none()),
     }
 }
 
 #[test]
 fn notes_are_cut_to_one_line(rt: HostRuntime) -> Result<(), Fail> {
-    for (text, noted, stands) in &NOTES {
-        assert!(rt; is_noted(text, noted, *stands)?);
-        assert!(rt; noted.len() <= Note::MOST);
+    for (at, (text, noted, stands)) in NOTES.iter().enumerate() {
+        let is_noted = is_noted(text, *noted)? && Note::of(text).is_some() == *stands;
+        assert!(rt; is_noted, "row {at}");
     }
-    assert!(rt; Note::cut(b"").is_none() && Note::of(b"").is_none());
     Ok(())
 }
 
@@ -115,8 +103,31 @@ fn is_status(bytes: &[u8]) -> Result<bool, NoMemory> {
 
 #[test]
 fn statuses_have_three_groups(rt: HostRuntime) -> Result<(), Fail> {
-    for (bytes, taken) in &STATUSES {
-        assert!(rt; is_status(bytes)? == *taken);
+    for (at, (bytes, taken)) in STATUSES.iter().enumerate() {
+        assert!(rt; is_status(bytes)? == *taken, "row {at}");
+    }
+    Ok(())
+}
+
+/// Whether something is still to be done in a state, and whether it is dead, by its place.
+static STATES: [(u8, bool, bool); 6] = [
+    (0, true, false),
+    (1, true, false),
+    (2, false, false),
+    (3, true, false),
+    (4, false, false),
+    (5, false, true),
+];
+
+fn is_so(place: u8, is_open: bool, is_dead: bool) -> Result<bool, Fail> {
+    let state = state(place)?;
+    Ok(state.is_open() == is_open && state.is_dead() == is_dead)
+}
+
+#[test]
+fn states_are_open_or_done(rt: HostRuntime) -> Result<(), Fail> {
+    for (place, is_open, is_dead) in &STATES {
+        assert!(rt; is_so(*place, *is_open, *is_dead)?, "state {place}");
     }
     Ok(())
 }

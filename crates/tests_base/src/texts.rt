@@ -1,6 +1,5 @@
-use mail_base::{
-    Catalog, Classes, Macros, Mark, Member, NoMemory, Seq, Text, Token, TryCopy, Word,
-};
+use crate::configs::is_word;
+use mail_base::{Catalog, Macros, Mark, NoMemory, Seq, Text, Token, TryCopy, Word};
 use std::alloc::Global;
 use std::test::Fail;
 
@@ -55,40 +54,39 @@ fn is_folded(text: &Text, small: &Text, growth: &Growth) -> bool {
         && (text == small) == (growth.whole == growth.small)
 }
 
+/// Whether a text is the same behind its way through a `Vec`, and none once it is cleared.
+fn goes_and_clears(text: &Text) -> Result<bool, NoMemory> {
+    let same = Text::from_vec(text.copy()?.into_vec());
+    let mut none = text.copy()?;
+    none.clear();
+    Ok(same == *text && *text != none && none == Text::new(text.allocator()))
+}
+
 fn grows_and_folds(alloc: Global, growth: &Growth) -> Result<bool, NoMemory> {
     let text = grown(alloc, growth)?;
     let small = text.folded()?;
-    Ok(is_grown(&text, growth) && is_folded(&text, &small, growth))
+    Ok(is_grown(&text, growth) && is_folded(&text, &small, growth) && goes_and_clears(&text)?)
 }
 
 #[test]
-fn texts_grow_and_fold(rt: HostRuntime) -> Result<(), Fail> {
-    for growth in &GROWTHS {
-        assert!(rt; grows_and_folds(rt.alloc(), growth)?);
+fn texts_grow_fold_and_are_cleared(rt: HostRuntime) -> Result<(), Fail> {
+    for (at, growth) in GROWTHS.iter().enumerate() {
+        assert!(rt; grows_and_folds(rt.alloc(), growth)?, "row {at}");
     }
     Ok(())
 }
 
-fn through_a_vec(text: &Text) -> Result<Text, NoMemory> {
-    Ok(Text::from_vec(text.copy()?.into_vec()))
-}
-
-fn cleared(text: &Text) -> Result<Text, NoMemory> {
-    let mut cleared = text.copy()?;
-    cleared.clear();
-    Ok(cleared)
-}
-
-fn differ(alloc: Global) -> Result<bool, NoMemory> {
-    let text = Text::of(alloc, b"MX.Example")?;
-    let same = through_a_vec(&text)?;
-    let none = cleared(&text)?;
-    Ok(same == text && text != none && none == Text::new(text.allocator()))
+fn is_written_over(alloc: Global) -> Result<bool, NoMemory> {
+    let mut name = Text::of(alloc, b"dfw000000000001")?;
+    if name.len() == 15 {
+        name.overwrite(b"qfw000000000027");
+    }
+    Ok(name.bytes() == b"qfw000000000027".as_slice())
 }
 
 #[test]
-fn texts_go_through_a_vec_and_are_cleared(rt: HostRuntime) -> Result<(), Fail> {
-    assert!(rt; differ(rt.alloc())?);
+fn bytes_are_written_over(rt: HostRuntime) -> Result<(), Fail> {
+    assert!(rt; is_written_over(rt.alloc())?);
     Ok(())
 }
 
@@ -100,22 +98,6 @@ fn one_to_three(alloc: Global) -> Result<Seq<u32>, NoMemory> {
     Ok(list)
 }
 
-/// The list with 5 at its second place, through a `Vec`.
-fn changed(list: &Seq<u32>) -> Result<Seq<u32>, NoMemory> {
-    let mut list = list.copy()?;
-    if list.len() > 1 {
-        list.set(1, 5);
-    }
-    Ok(Seq::from_vec(list.into_vec()))
-}
-
-/// The first items of a list, so many.
-fn cut(list: &Seq<u32>, most: usize) -> Result<Seq<u32>, NoMemory> {
-    let mut list = list.copy()?;
-    list.truncate(most);
-    Ok(list)
-}
-
 fn lists_differ(list: &Seq<u32>, changed: &Seq<u32>) -> bool {
     list.items() == [1, 2, 3].as_slice()
         && changed.items() == [1, 5, 3].as_slice()
@@ -124,11 +106,15 @@ fn lists_differ(list: &Seq<u32>, changed: &Seq<u32>) -> bool {
         && list != changed
 }
 
+/// Whether a list is as its copy, and differs once that has 5 at its second place, through a `Vec`.
 fn grow_and_change(alloc: Global) -> Result<bool, NoMemory> {
     let list = one_to_three(alloc)?;
-    let copied = list.copy()?;
-    let changed = changed(&list)?;
-    Ok(copied == list && lists_differ(&list, &changed))
+    let mut copied = list.copy()?;
+    let is_same = copied == list;
+    if copied.len() > 1 {
+        copied.set(1, 5);
+    }
+    Ok(is_same && lists_differ(&list, &Seq::from_vec(copied.into_vec())))
 }
 
 #[test]
@@ -141,15 +127,15 @@ fn lists_grow_and_change(rt: HostRuntime) -> Result<(), Fail> {
 static CUTS: [(usize, &[u32]); 4] = [(0, &[]), (1, &[1]), (3, &[1, 2, 3]), (4, &[1, 2, 3])];
 
 fn is_cut(alloc: Global, most: usize, left: &[u32]) -> Result<bool, NoMemory> {
-    let list = one_to_three(alloc)?;
-    let cut = cut(&list, most)?;
+    let mut cut = one_to_three(alloc)?;
+    cut.truncate(most);
     Ok(cut.items() == left && cut.is_empty() == left.is_empty())
 }
 
 #[test]
 fn lists_are_cut(rt: HostRuntime) -> Result<(), Fail> {
-    for (most, left) in &CUTS {
-        assert!(rt; is_cut(rt.alloc(), *most, left)?);
+    for (at, (most, left)) in CUTS.iter().enumerate() {
+        assert!(rt; is_cut(rt.alloc(), *most, left)?, "row {at}");
     }
     Ok(())
 }
@@ -217,86 +203,34 @@ fn leave(alloc: Global, deeds: &[Deed], pairs: &[(&[u8], u32)]) -> Result<bool, 
 
 #[test]
 fn names_keep_their_places(rt: HostRuntime) -> Result<(), Fail> {
-    for (deeds, pairs) in &CATALOGS {
-        assert!(rt; leave(rt.alloc(), deeds, pairs)?);
+    for (at, (deeds, pairs)) in CATALOGS.iter().enumerate() {
+        assert!(rt; leave(rt.alloc(), deeds, pairs)?, "row {at}");
     }
     Ok(())
 }
 
-fn macros(alloc: Global, name: &Text) -> Result<Macros, NoMemory> {
-    let mut macros = Macros::new(alloc);
-    macros.set(name, &Text::of(alloc, b"mx")?)?;
-    Ok(macros)
-}
-
-fn without(macros: &Macros, name: &Text) -> Result<Macros, NoMemory> {
+/// Whether the macro is the only one and `mx`, and is none in a copy where it is unset.
+fn are_kept(macros: &Macros, name: &Text) -> Result<bool, NoMemory> {
     let mut left = macros.copy()?;
     left.unset(name);
-    Ok(left)
-}
-
-fn are_kept(macros: &Macros, left: &Macros, name: &Text) -> bool {
-    match macros.get(name) {
-        Some(value) => {
-            value.bytes() == b"mx".as_slice()
-                && macros.values().len() == 1
-                && left.get(name).is_none()
-                && left.values().is_empty()
-        }
-        None => false,
-    }
+    Ok(
+        is_word(macros.get(name), b"mx")
+            && macros.values().len() == 1
+            && left.get(name).is_none()
+            && left.values().is_empty(),
+    )
 }
 
 fn are_set_and_unset(alloc: Global) -> Result<bool, NoMemory> {
     let name = Text::of(alloc, b"w")?;
-    let macros = macros(alloc, &name)?;
-    let left = without(&macros, &name)?;
-    Ok(are_kept(&macros, &left, &name))
+    let mut macros = Macros::new(alloc);
+    macros.set(&name, &Text::of(alloc, b"mx")?)?;
+    are_kept(&macros, &name)
 }
 
 #[test]
 fn macros_keep_their_values(rt: HostRuntime) -> Result<(), Fail> {
     assert!(rt; are_set_and_unset(rt.alloc())?);
-    Ok(())
-}
-
-fn plain(alloc: Global, text: &[u8]) -> Result<Member, NoMemory> {
-    Ok(Member {
-        text: Text::of(alloc, text)?,
-        tokens: None,
-    })
-}
-
-fn one(member: Member) -> Result<Seq<Member>, NoMemory> {
-    let mut members = Seq::new(member.text.allocator());
-    members.push(member)?;
-    Ok(members)
-}
-
-fn classes(alloc: Global, name: &Text) -> Result<Classes, NoMemory> {
-    let mut classes = Classes::new(alloc);
-    classes.extend(name, one(plain(alloc, b"x")?)?)?;
-    classes.extend(name, one(plain(alloc, b"Y")?)?)?;
-    Ok(classes)
-}
-
-fn are_x_and_y(members: &[Member]) -> bool {
-    match members {
-        [x, y] => x.text.bytes() == b"x".as_slice() && y.text.bytes() == b"Y".as_slice(),
-        _ => false,
-    }
-}
-
-fn are_gained(alloc: Global) -> Result<bool, NoMemory> {
-    let name = Text::of(alloc, b"a")?;
-    let other = Text::of(alloc, b"A")?;
-    let classes = classes(alloc, &name)?;
-    Ok(are_x_and_y(classes.members(&name)) && classes.members(&other).is_empty())
-}
-
-#[test]
-fn classes_gain_members(rt: HostRuntime) -> Result<(), Fail> {
-    assert!(rt; are_gained(rt.alloc())?);
     Ok(())
 }
 
@@ -312,20 +246,26 @@ fn token(alloc: Global, letter: u8) -> Result<Token, NoMemory> {
     }
 }
 
-fn are_equal(alloc: Global, one: u8, other: u8) -> Result<bool, NoMemory> {
-    let other = token(alloc, other)?;
-    let one = token(alloc, one)?;
+fn is_copied_as(one: &Token, other: &Token) -> Result<bool, NoMemory> {
     let copied = one.copy()?;
-    Ok(copied == other)
+    Ok(copied == *other)
+}
+
+fn are_equal(alloc: Global, one: u8, other: u8) -> Result<bool, NoMemory> {
+    let one = token(alloc, one)?;
+    is_copied_as(&one, &token(alloc, other)?)
 }
 
 #[test]
 fn tokens_are_copied_and_compared(rt: HostRuntime) -> Result<(), Fail> {
-    for one in b"wquh@." {
-        for other in b"wquh@." {
-            assert!(rt; are_equal(rt.alloc(), *one, *other)? == (*one == *other));
+    for one in b"wWquh@." {
+        for other in b"wWquh@." {
+            let are_equal = are_equal(rt.alloc(), *one, *other)?;
+            assert!(rt;
+                are_equal == one.eq_ignore_ascii_case(other),
+                "{one} and {other}"
+            );
         }
     }
-    assert!(rt; are_equal(rt.alloc(), b'w', b'W')?);
     Ok(())
 }
