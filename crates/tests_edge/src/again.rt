@@ -3,6 +3,18 @@
 use mail_base::{NoMemory, Seq, Text};
 use std::alloc::Global;
 
+pub fn calls(alloc: Global, numbers: &[u64]) -> Result<Seq<u64>, NoMemory> {
+    Ok(Seq::from_vec(Vec::from_slice(alloc, numbers)?))
+}
+
+// A line's or a session's number as a digit, and what is said of it.
+pub fn write_mark(text: &mut Text, number: u64, mark: &[u8], bytes: &[u8]) -> Result<(), NoMemory> {
+    text.push(b'0' + (number % 10) as u8)?;
+    text.extend(mark)?;
+    text.extend(bytes)?;
+    text.push(b' ')
+}
+
 // How acts went, a word each, and which calls failed.
 #[derive(Drop)]
 pub struct Course {

@@ -1,7 +1,7 @@
-use crate::again::{Course, left_out, unlisted};
+use crate::again::{Course, calls, left_out, unlisted, write_mark};
 use link_edge::{DialEvent, Dialer, Peer, ScriptDialer};
-use mail_base::{Failed, NoMemory, Seq, Text, TryCopy};
-use std::alloc::{AllocError, Global};
+use mail_base::{Failed, NoMemory, Text, TryCopy, texts_of};
+use std::alloc::Global;
 use std::test::Fail;
 
 // What is done with a dialer.
@@ -138,18 +138,6 @@ const ROWS: &[Row] = &[
     },
 ];
 
-fn numbers(alloc: Global, numbers: &[u64]) -> Result<Seq<u64>, AllocError> {
-    Ok(Seq::from_vec(Vec::from_slice(alloc, numbers)?))
-}
-
-fn texts(alloc: Global, pieces: &[&[u8]]) -> Result<Seq<Text>, NoMemory> {
-    let mut texts = Seq::new(alloc);
-    for piece in pieces {
-        texts.push(Text::of(alloc, piece)?)?;
-    }
-    Ok(texts)
-}
-
 fn peer(alloc: Global, port: u16) -> Result<Peer, NoMemory> {
     if port == 0 {
         return Ok(Peer::Path(Text::of(alloc, b"/s")?));
@@ -219,14 +207,6 @@ fn close(dialer: &mut ScriptDialer, line: u64, went: &mut Text) -> Result<(), No
     write_mark(went, line, b"x", b"")
 }
 
-// A line's number as a digit, and what is said of it.
-fn write_mark(text: &mut Text, line: u64, mark: &[u8], bytes: &[u8]) -> Result<(), NoMemory> {
-    text.push(b'0' + (line % 10) as u8)?;
-    text.extend(mark)?;
-    text.extend(bytes)?;
-    text.push(b' ')
-}
-
 // What a dialer told, a word for each event.
 fn told(alloc: Global, events: &[DialEvent]) -> Result<Text, NoMemory> {
     let mut text = Text::new(alloc);
@@ -268,15 +248,6 @@ fn write_peer(text: &mut Text, peer: &Peer) -> Result<(), NoMemory> {
     text.push(b' ')
 }
 
-// What a dialer told that lacked no memory.
-fn whole(alloc: Global, dialer: &ScriptDialer) -> Result<Text, NoMemory> {
-    let (_shown, hidden) = failures(dialer);
-    if dialer.starved > 0 || hidden > 0 {
-        return Err(NoMemory);
-    }
-    told(alloc, dialer.seen())
-}
-
 // How many failed calls were told, and how many weren't.
 fn failures(dialer: &ScriptDialer) -> (u64, u64) {
     let mut shown = 0u64;
@@ -296,23 +267,43 @@ fn failures(dialer: &ScriptDialer) -> (u64, u64) {
     (shown, hidden)
 }
 
+// Whether a dialer told what one told that lacked no memory, but for the calls that it only counts.
+fn is_retold(
+    alloc: Global,
+    dialer: &ScriptDialer,
+    listed: &ScriptDialer,
+) -> Result<bool, NoMemory> {
+    let (_told, missed) = failures(listed);
+    if listed.starved > 0 || missed > 0 {
+        return Err(NoMemory);
+    }
+    let whole = told(alloc, listed.seen())?;
+    let told = told(alloc, dialer.seen())?;
+    let (_shown, hidden) = failures(dialer);
+    Ok(left_out(&told, &whole) == Some(hidden))
+}
+
 impl Row {
     fn dialer(&self, alloc: Global, failing: &[u64]) -> Result<ScriptDialer, NoMemory> {
-        let failing = numbers(alloc, failing)?;
-        Ok(ScriptDialer::new(alloc, texts(alloc, self.pieces)?, failing))
+        let failing = calls(alloc, failing)?;
+        Ok(ScriptDialer::new(alloc, texts_of(alloc, self.pieces)?, failing))
     }
 
     // Where memory wasn't wanting, all is as the row has it. Where it was, each failed call is told
     // or counted all the same, and all is as where those calls are listed.
-    fn is_played(&self, alloc: Global, dialer: &mut ScriptDialer) -> Result<bool, NoMemory> {
-        let mut went = Course::new(alloc);
-        play(dialer, self.acts, &mut went)?;
+    fn is_played(
+        &self,
+        alloc: Global,
+        dialer: &mut ScriptDialer,
+        went: &mut Course,
+    ) -> Result<bool, NoMemory> {
+        play(dialer, self.acts, went)?;
         let (shown, hidden) = failures(dialer);
         Ok(
             shown.saturating_add(hidden) == dialer.calls.faults
                 && dialer.starved == unlisted(&went.failed, self.failing)
-                && (dialer.starved > 0 || hidden > 0 || self.is_whole(alloc, dialer, &went)?)
-                && self.is_repeated(alloc, dialer, &went)?,
+                && (dialer.starved > 0 || hidden > 0 || self.is_whole(alloc, dialer, went)?)
+                && self.is_repeated(alloc, dialer, went)?,
         )
     }
 
@@ -339,19 +330,17 @@ impl Row {
         let mut listed = self.dialer(alloc, first.failed.items())?;
         let mut again = Course::new(alloc);
         play(&mut listed, self.acts, &mut again)?;
-        let whole = whole(alloc, &listed)?;
-        let told = told(alloc, dialer.seen())?;
-        let (_shown, hidden) = failures(dialer);
         Ok(
-            again.text == first.text
-                && listed.calls.faults == dialer.calls.faults
-                && left_out(&told, &whole) == Some(hidden),
+            is_retold(alloc, dialer, &listed)?
+                && again.text == first.text
+                && listed.calls.faults == dialer.calls.faults,
         )
     }
 
     fn plays(&self, alloc: Global) -> Result<bool, NoMemory> {
         let mut dialer = self.dialer(alloc, self.failing)?;
-        self.is_played(alloc, &mut dialer)
+        let mut went = Course::new(alloc);
+        self.is_played(alloc, &mut dialer, &mut went)
     }
 }
 
@@ -363,16 +352,25 @@ fn peers_say_their_pieces_and_the_list_decides(rt: HostRuntime) -> Result<(), Fa
     Ok(())
 }
 
+// Whether a peer is what is made for that port.
+fn is_made(peer: &Peer, made: u16) -> bool {
+    match peer {
+        Peer::Host { address, port } => {
+            *port == made && made > 0 && address.bytes() == b"h".as_slice()
+        }
+        Peer::Path(path) => made == 0 && path.bytes() == b"/s".as_slice(),
+    }
+}
+
+fn is_copied(alloc: Global, port: u16) -> Result<bool, NoMemory> {
+    let peer = peer(alloc, port)?;
+    Ok(is_made(&peer.copy()?, port))
+}
+
 #[test]
 fn a_peer_is_copied(rt: HostRuntime) -> Result<(), Fail> {
-    let host = peer(rt.alloc(), 25)?;
-    let path = peer(rt.alloc(), 0)?;
-    assert!(rt;
-        matches!(
-            &host.copy()?,
-            Peer::Host { address, port: 25 } if address.bytes() == b"h".as_slice()
-        )
-    );
-    assert!(rt; matches!(&path.copy()?, Peer::Path(path) if path.bytes() == b"/s".as_slice()));
+    for port in b"\x00\x19" {
+        assert!(rt; is_copied(rt.alloc(), *port as u16)?, "port {port}");
+    }
     Ok(())
 }

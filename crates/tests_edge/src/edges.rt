@@ -4,11 +4,12 @@ ghost use Rattle.mail_base.specs.Causes.{HasEdgeCause};
 ghost use Rattle.mail_edge.specs.Moves.{GainsPart};
 ghost use Rattle.mail_edge.specs.Seen.{text_of};
 
+use crate::again::calls;
 use mail_base::{EdgeFault, Failed, NoMemory, Seq, Text};
 use mail_edge::{
     Clock, Files, MemClock, MemFiles, MemSink, MemSource, Sink, Source, SureFiles, SureSource,
 };
-use std::alloc::{AllocError, Global};
+use std::alloc::Global;
 use std::test::Fail;
 
 // A device whose content is not told, as the real ones are.
@@ -99,17 +100,6 @@ fn two_readings<C: Clock>(clock: &mut C) -> (u64, u64)
     (first, clock.now())
 }
 
-fn calls(alloc: Global, failing: &[u64]) -> Result<Seq<u64>, AllocError> {
-    Ok(Seq::from_vec(Vec::from_slice(alloc, failing)?))
-}
-
-// What a device told in its calls, and how many of its faults it counts.
-#[derive(Drop)]
-struct Told {
-    text: Text,
-    faults: u64,
-}
-
 // A source, by the list of its failing calls where it has one; how often it is drained, and a last
 // time where its content isn't told; and what each time gave, with `|` behind it, or `!` where it
 // failed.
@@ -147,39 +137,42 @@ const SOURCES: &[SourceRow] = &[
 ];
 
 impl SourceRow {
-    fn gives(&self, alloc: Global) -> Result<Told, NoMemory> {
+    // Adds what each time gave, and says how many faults the source counts.
+    fn drain(&self, alloc: Global, told: &mut Text) -> Result<u64, NoMemory> {
         let bytes = Text::of(alloc, self.bytes)?;
-        let Some(failing) = self.failing else {
-            let text = drained_by(alloc, SureSource::new(bytes), self.times)?;
-            return Ok(Told { text, faults: 0 });
-        };
-        let mut source = MemSource::new(bytes, calls(alloc, failing)?);
-        let mut text = Text::new(alloc);
-        drain(alloc, &mut source, self.times, &mut text)?;
-        let faults = source.script.faults;
-        drain(alloc, &mut Quiet(source), 1, &mut text)?;
-        Ok(Told { text, faults })
+        match self.failing {
+            Some(failing) => {
+                let source = MemSource::new(bytes, calls(alloc, failing)?);
+                Ok(drain(alloc, source, self.times, told)?.script.faults)
+            }
+            None => {
+                drain(alloc, SureSource::new(bytes), self.times, told)?;
+                Ok(0)
+            }
+        }
+    }
+
+    fn is_drained(&self, alloc: Global) -> Result<bool, NoMemory> {
+        let mut told = Text::new(alloc);
+        let faults = self.drain(alloc, &mut told)?;
+        Ok(told.bytes() == self.told && faults == self.faults)
     }
 }
 
-fn drained_by(alloc: Global, source: SureSource, times: u32) -> Result<Text, NoMemory> {
-    let mut source = source;
-    let mut text = Text::new(alloc);
-    drain(alloc, &mut source, times, &mut text)?;
-    drain(alloc, &mut Quiet(source), 1, &mut text)?;
-    Ok(text)
-}
-
-fn drain<S: Source>(
+// Drains a source so often, and once more where its content isn't told.
+fn drain<S: Source + Drop>(
     alloc: Global,
-    source: &mut S,
+    source: S,
     times: u32,
     told: &mut Text,
-) -> Result<(), NoMemory> {
+) -> Result<S, NoMemory> {
+    let mut source = source;
     for _ in 0..times {
-        tell(told, drained(alloc, source).map(Some))?;
+        tell(told, drained(alloc, &mut source).map(Some))?;
     }
-    Ok(())
+    let mut quiet = Quiet(source);
+    tell(told, drained(alloc, &mut quiet).map(Some))?;
+    Ok(quiet.0)
 }
 
 // A text with `|` behind it, `-` for none, and `!` for a call that failed.
@@ -198,9 +191,7 @@ fn tell(told: &mut Text, answer: Result<Option<Text>, EdgeFault>) -> Result<(), 
 #[test]
 fn a_source_gives_what_is_left_and_fails_as_listed(rt: HostRuntime) -> Result<(), Fail> {
     for (at, row) in SOURCES.iter().enumerate() {
-        let told = row.gives(rt.alloc())?;
-        assert_eq!(rt; told.text.bytes(), row.told, "row {at}");
-        assert_eq!(rt; told.faults, row.faults, "row {at}");
+        assert!(rt; row.is_drained(rt.alloc())?, "row {at}");
     }
     Ok(())
 }
@@ -234,15 +225,27 @@ const SINKS: &[SinkRow] = &[
 ];
 
 impl SinkRow {
-    fn takes(&self, alloc: Global) -> Result<(Text, MemSink), NoMemory> {
-        let mut sink = MemSink::new(alloc, calls(alloc, self.failing)?);
-        let mut told = Text::new(alloc);
-        for (one, other) in self.given {
-            told.push(mark_of(give_both(&mut sink, one, other)))?;
+    // Whether the texts are taken or not as the row has it.
+    fn takes(&self, sink: &mut MemSink) -> bool {
+        for ((one, other), mark) in self.given.iter().zip(self.told) {
+            if mark_of(give_both(sink, one, other)) != *mark {
+                return false;
+            }
         }
+        self.told.len() == self.given.len() + 1
+    }
+
+    fn is_written(&self, alloc: Global) -> Result<bool, NoMemory> {
+        let mut sink = MemSink::new(alloc, calls(alloc, self.failing)?);
+        let takes = self.takes(&mut sink);
         let mut quiet = Quiet(sink);
-        told.push(mark_of(give_both(&mut quiet, b", ", b"last")))?;
-        Ok((told, quiet.0))
+        let last = mark_of(give_both(&mut quiet, b", ", b"last"));
+        Ok(
+            takes
+                && self.told.last() == Some(&last)
+                && quiet.0.seen() == self.written
+                && quiet.0.script.faults == self.faults,
+        )
     }
 }
 
@@ -253,21 +256,20 @@ fn mark_of(went: Result<(), Failed>) -> u8 {
 #[test]
 fn a_sink_keeps_what_it_is_given_and_fails_as_listed(rt: HostRuntime) -> Result<(), Fail> {
     for (at, row) in SINKS.iter().enumerate() {
-        let (told, sink) = row.takes(rt.alloc())?;
-        assert_eq!(rt; told.bytes(), row.told, "row {at}");
-        assert_eq!(rt; sink.seen(), row.written, "row {at}");
-        assert_eq!(rt; sink.script.faults, row.faults, "row {at}");
+        assert!(rt; row.is_written(rt.alloc())?, "row {at}");
     }
     Ok(())
 }
 
 // Three files, of which two have one name.
+static THREE: [(&[u8], &[u8]); 3] = [(b"a", b"first"), (b"b", b"other"), (b"a", b"third")];
+
 fn three_files(alloc: Global) -> Result<SureFiles, Fail> {
-    let mut files = Vec::new(alloc);
-    for (name, text) in [(b"a", b"first"), (b"b", b"other"), (b"a", b"third")] {
+    let mut files = Seq::new(alloc);
+    for (name, text) in &THREE {
         files.push((Text::of(alloc, name)?, Text::of(alloc, text)?))?;
     }
-    Ok(SureFiles::new(Seq::from_vec(files)).ok_or("a large text")?)
+    Ok(SureFiles::new(files).ok_or("a large text")?)
 }
 
 // These files, by the list of their failing calls where they have one; the names that are asked,
@@ -303,20 +305,40 @@ const FILES: &[FilesRow] = &[
 ];
 
 impl FilesRow {
-    fn give(&self, alloc: Global) -> Result<Told, Fail> {
-        let mut text = Text::new(alloc);
-        let mut sure = three_files(alloc)?;
-        let Some(failing) = self.failing else {
-            read_all(alloc, &mut sure, self.names, &mut text)?;
-            read_all(alloc, &mut Quiet(sure), &[b"b"], &mut text)?;
-            return Ok(Told { text, faults: 0 });
-        };
-        let mut files = MemFiles::new(sure, calls(alloc, failing)?);
-        read_all(alloc, &mut files, self.names, &mut text)?;
-        let faults = files.script.faults;
-        read_all(alloc, &mut Quiet(files), &[b"b"], &mut text)?;
-        Ok(Told { text, faults })
+    // Adds what each name gave, and says how many faults the files count.
+    fn read(&self, alloc: Global, told: &mut Text) -> Result<u64, Fail> {
+        let sure = three_files(alloc)?;
+        match self.failing {
+            Some(failing) => {
+                let files = MemFiles::new(sure, calls(alloc, failing)?);
+                Ok(read_twice(alloc, files, self.names, told)?.script.faults)
+            }
+            None => {
+                read_twice(alloc, sure, self.names, told)?;
+                Ok(0)
+            }
+        }
     }
+
+    fn are_read(&self, alloc: Global) -> Result<bool, Fail> {
+        let mut told = Text::new(alloc);
+        let faults = self.read(alloc, &mut told)?;
+        Ok(told.bytes() == self.told && faults == self.faults)
+    }
+}
+
+// Reads these names, and `b` where the content isn't told.
+fn read_twice<F: Files + Drop>(
+    alloc: Global,
+    files: F,
+    names: &[&[u8]],
+    told: &mut Text,
+) -> Result<F, NoMemory> {
+    let mut files = files;
+    read_all(alloc, &mut files, names, told)?;
+    let mut quiet = Quiet(files);
+    read_all(alloc, &mut quiet, &[b"b"], told)?;
+    Ok(quiet.0)
 }
 
 fn read_all<F: Files>(
@@ -334,23 +356,27 @@ fn read_all<F: Files>(
 #[test]
 fn files_give_the_first_text_of_a_name_and_fail_as_listed(rt: HostRuntime) -> Result<(), Fail> {
     for (at, row) in FILES.iter().enumerate() {
-        let told = row.give(rt.alloc())?;
-        assert_eq!(rt; told.text.bytes(), row.told, "row {at}");
-        assert_eq!(rt; told.faults, row.faults, "row {at}");
+        assert!(rt; row.are_read(rt.alloc())?, "row {at}");
     }
     Ok(())
 }
 
+// Where a clock starts, its step, and its first two readings.
+static CLOCKS: [(u64, u64, (u64, u64)); 2] = [
+    (784_111_777, 60, (784_111_777, 784_111_837)),
+    (u64::MAX - 5, 60, (u64::MAX - 5, u64::MAX)),
+];
+
+fn steps_so(start: u64, step: u64, told: (u64, u64)) -> bool {
+    let mut clock = MemClock::new(start, step);
+    two_readings(&mut clock) == told
+        && clock.readings == 2
+        && two_readings(&mut Quiet(MemClock::new(start, step))) == told
+}
+
 #[test]
-fn a_clock_steps_up_to_the_greatest_moment(rt: HostRuntime) -> Result<(), Fail> {
-    for (start, step, told) in [
-        (784_111_777, 60, (784_111_777, 784_111_837)),
-        (u64::MAX - 5, 60, (u64::MAX - 5, u64::MAX)),
-    ] {
-        let mut clock = MemClock::new(start, step);
-        assert_eq!(rt; two_readings(&mut clock), told);
-        assert_eq!(rt; clock.readings, 2);
-        assert_eq!(rt; two_readings(&mut Quiet(MemClock::new(start, step))), told);
+fn a_clock_steps_up_to_the_greatest_moment(rt: HostRuntime) {
+    for (start, step, told) in &CLOCKS {
+        assert!(rt; steps_so(*start, *step, *told), "from {start}");
     }
-    Ok(())
 }

@@ -1,13 +1,9 @@
-use crate::again::unlisted;
+use crate::again::{calls, unlisted, write_mark};
 use link_edge::{Event, Floor, FloorEvent, OneFloor, Place, ScriptFloor, Step, Turn};
 use mail_base::{Failed, NoMemory, Seq, Text, TryCopy};
 use mail_edge::{MemSink, MemSource, Source};
-use std::alloc::{AllocError, Global};
+use std::alloc::Global;
 use std::test::Fail;
-
-fn calls(alloc: Global, failing: &[u64]) -> Result<Seq<u64>, AllocError> {
-    Ok(Seq::from_vec(Vec::from_slice(alloc, failing)?))
-}
 
 // What is done with a floor.
 #[derive(Clone, Copy)]
@@ -158,9 +154,9 @@ fn done<F: Driven>(floor: &mut F, act: Act, heard: &mut Text) -> Result<Answer, 
 fn hear<F: Floor>(floor: &mut F, heard: &mut Text) -> Result<Answer, NoMemory> {
     let mut buf = [0u8; 64];
     let written = match floor.turn(&mut buf) {
-        Ok(Turn::Opened(session, count)) => write_event(heard, session, b'+', &buf[..count]),
-        Ok(Turn::Piece(session, count)) => write_event(heard, session, b'>', &buf[..count]),
-        Ok(Turn::Closed(session)) => write_event(heard, session, b'-', b""),
+        Ok(Turn::Opened(session, count)) => write_mark(heard, session, b"+", &buf[..count]),
+        Ok(Turn::Piece(session, count)) => write_mark(heard, session, b">", &buf[..count]),
+        Ok(Turn::Closed(session)) => write_mark(heard, session, b"-", b""),
         Ok(Turn::Idle) => heard.extend(b"rest "),
         Ok(Turn::Stop) => heard.extend(b"stop "),
         Err(Failed) => return Ok(Answer::Failed),
@@ -173,34 +169,28 @@ fn hear<F: Floor>(floor: &mut F, heard: &mut Text) -> Result<Answer, NoMemory> {
 fn told(alloc: Global, events: &[FloorEvent]) -> Result<Text, NoMemory> {
     let mut text = Text::new(alloc);
     for event in events {
-        match event {
-            FloorEvent::Took(event) => write_turn(&mut text, event)?,
-            FloorEvent::Sent(session, bytes) => {
-                write_event(&mut text, *session, b'<', bytes.bytes())?
-            }
-            FloorEvent::Unsent(session) => write_event(&mut text, *session, b'!', b"")?,
-            FloorEvent::HungUp(session) => write_event(&mut text, *session, b'x', b"")?,
-        }
+        write_event(&mut text, event)?;
     }
     Ok(text)
 }
 
-fn write_turn(text: &mut Text, event: &Event) -> Result<(), NoMemory> {
+fn write_event(text: &mut Text, event: &FloorEvent) -> Result<(), NoMemory> {
     match event {
-        Event::Opens(session, peer) => write_event(text, *session, b'+', peer.bytes()),
-        Event::Brings(session, bytes) => write_event(text, *session, b'>', bytes.bytes()),
-        Event::Closes(session) => write_event(text, *session, b'-', b""),
-        Event::Rests => text.extend(b"rest "),
-        Event::Stops => text.extend(b"stop "),
+        FloorEvent::Took(event) => write_turn(text, event),
+        FloorEvent::Sent(session, bytes) => write_mark(text, *session, b"<", bytes.bytes()),
+        FloorEvent::Unsent(session) => write_mark(text, *session, b"!", b""),
+        FloorEvent::HungUp(session) => write_mark(text, *session, b"x", b""),
     }
 }
 
-// A session's number as a digit, and what is said of it.
-fn write_event(text: &mut Text, session: u64, mark: u8, bytes: &[u8]) -> Result<(), NoMemory> {
-    text.push(b'0' + (session % 10) as u8)?;
-    text.push(mark)?;
-    text.extend(bytes)?;
-    text.push(b' ')
+fn write_turn(text: &mut Text, event: &Event) -> Result<(), NoMemory> {
+    match event {
+        Event::Opens(session, peer) => write_mark(text, *session, b"+", peer.bytes()),
+        Event::Brings(session, bytes) => write_mark(text, *session, b">", bytes.bytes()),
+        Event::Closes(session) => write_mark(text, *session, b"-", b""),
+        Event::Rests => text.extend(b"rest "),
+        Event::Stops => text.extend(b"stop "),
+    }
 }
 
 // A step as a row has it.
@@ -328,28 +318,34 @@ fn steps(alloc: Global, moves: &[Move]) -> Result<Seq<Step>, NoMemory> {
     Ok(steps)
 }
 
-// What a floor told that lacked no memory.
-fn whole(alloc: Global, floor: &ScriptFloor) -> Result<Text, NoMemory> {
-    if floor.starved > 0 {
+// Whether a floor told what one told that lacked no memory.
+fn is_retold(alloc: Global, floor: &ScriptFloor, listed: &ScriptFloor) -> Result<bool, NoMemory> {
+    if listed.starved > 0 {
         return Err(NoMemory);
     }
-    told(alloc, floor.seen())
+    let whole = told(alloc, listed.seen())?;
+    let told = told(alloc, floor.seen())?;
+    Ok(told == whole)
 }
 
 impl ScriptRow {
     // Where memory wasn't wanting, all is as the row has it. Where it was, all is as where the calls
     // that failed are listed.
-    fn is_played(&self, alloc: Global, floor: &mut ScriptFloor) -> Result<bool, NoMemory> {
-        let mut heard = Hearing::new(alloc);
-        play(floor, self.acts, &mut heard)?;
+    fn is_played(
+        &self,
+        alloc: Global,
+        floor: &mut ScriptFloor,
+        heard: &mut Hearing,
+    ) -> Result<bool, NoMemory> {
+        play(floor, self.acts, heard)?;
         let unlisted = unlisted(&heard.turns, self.turns).saturating_add(unlisted(
             &heard.sends,
             self.sends,
         ));
         Ok(
             floor.starved == unlisted
-                && (floor.starved > 0 || self.is_whole(alloc, floor, &heard)?)
-                && self.is_repeated(alloc, floor, &heard)?,
+                && (floor.starved > 0 || self.is_whole(alloc, floor, heard)?)
+                && self.is_repeated(alloc, floor, heard)?,
         )
     }
 
@@ -376,11 +372,9 @@ impl ScriptRow {
         let mut listed = self.floor(alloc, first.turns.items(), first.sends.items())?;
         let mut again = Hearing::new(alloc);
         play(&mut listed, self.acts, &mut again)?;
-        let whole = whole(alloc, &listed)?;
-        let told = told(alloc, floor.seen())?;
         Ok(
-            again.text == first.text
-                && told == whole
+            is_retold(alloc, floor, &listed)?
+                && again.text == first.text
                 && listed.turns.faults == floor.turns.faults
                 && listed.sends.faults == floor.sends.faults,
         )
@@ -388,7 +382,8 @@ impl ScriptRow {
 
     fn plays(&self, alloc: Global) -> Result<bool, NoMemory> {
         let mut floor = self.floor(alloc, self.turns, self.sends)?;
-        self.is_played(alloc, &mut floor)
+        let mut heard = Hearing::new(alloc);
+        self.is_played(alloc, &mut floor, &mut heard)
     }
 }
 
@@ -501,19 +496,22 @@ fn a_floor_gives_back_its_parts(rt: HostRuntime) -> Result<(), Fail> {
     Ok(())
 }
 
+fn is_port(place: &Place) -> bool {
+    match place {
+        Place::Port { address, port } => *port == 25 && address.bytes() == b"127.0.0.1".as_slice(),
+        Place::Standard => false,
+    }
+}
+
+fn are_copied(port: &Place) -> Result<bool, NoMemory> {
+    let copy = port.copy()?;
+    Ok(is_port(&copy) && matches!(&Place::Standard.copy()?, Place::Standard))
+}
+
 #[test]
 fn a_place_is_copied(rt: HostRuntime) -> Result<(), Fail> {
-    let place = Place::Port {
-        address: Text::of(rt.alloc(), b"127.0.0.1")?,
-        port: 25,
-    };
-    let copy = place.copy()?;
-    assert!(rt;
-        matches!(
-            &copy,
-            Place::Port { address, port: 25 } if address.bytes() == b"127.0.0.1".as_slice()
-        )
-    );
-    assert!(rt; matches!(Place::Standard.copy()?, Place::Standard));
+    let address = Text::of(rt.alloc(), b"127.0.0.1")?;
+    let port = Place::Port { address, port: 25 };
+    assert!(rt; are_copied(&port)?);
     Ok(())
 }

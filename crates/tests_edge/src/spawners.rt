@@ -1,7 +1,7 @@
-use crate::again::{Course, left_out, unlisted};
-use mail_base::{Failed, NoMemory, Seq, Text};
+use crate::again::{Course, calls, left_out, unlisted};
+use mail_base::{Failed, NoMemory, Seq, Text, texts_of};
 use spawn_edge::{Life, Poll, ScriptSpawner, SpawnEvent, Spawner, Start};
-use std::alloc::{AllocError, Global};
+use std::alloc::Global;
 use std::test::Fail;
 
 // What is done with a spawner.
@@ -117,10 +117,9 @@ const ROWS: &[Row] = &[
     },
 ];
 
-fn spawner_of(alloc: Global, failing: &[u64]) -> Result<ScriptSpawner, AllocError> {
+fn spawner_of(alloc: Global, failing: &[u64]) -> Result<ScriptSpawner, NoMemory> {
     let lives = Seq::from_vec(Vec::from_slice(alloc, LIVES)?);
-    let failing = Seq::from_vec(Vec::from_slice(alloc, failing)?);
-    Ok(ScriptSpawner::new(alloc, lives, failing))
+    Ok(ScriptSpawner::new(alloc, lives, calls(alloc, failing)?))
 }
 
 // Does these acts, and adds how they went.
@@ -140,8 +139,7 @@ fn begin(spawner: &mut ScriptSpawner, program: &[u8], went: &mut Text) -> Result
     let alloc = went.allocator();
     let program = Text::of(alloc, program)?;
     let input = Text::of(alloc, b"hi")?;
-    let mut args = Seq::new(alloc);
-    args.push(Text::of(alloc, b"ann")?)?;
+    let args = texts_of(alloc, &[b"ann"])?;
     write_start(went, spawner.start(&program, &args, &input))
 }
 
@@ -182,23 +180,25 @@ fn write_end(text: &mut Text, child: u64, status: i32) -> Result<(), NoMemory> {
 fn told(alloc: Global, events: &[SpawnEvent]) -> Result<Text, NoMemory> {
     let mut text = Text::new(alloc);
     for event in events {
-        match event {
-            SpawnEvent::Began { start, child, .. } => {
-                write_mark(&mut text, *child, b"+")?;
-                write_texts(&mut text, start)?;
-            }
-            SpawnEvent::Unbegun { start, .. } => {
-                text.push(b'!')?;
-                write_texts(&mut text, start)?;
-            }
-            SpawnEvent::Polled(child, Poll::Runs) => write_mark(&mut text, *child, b". ")?,
-            SpawnEvent::Polled(child, Poll::Over(status)) => {
-                write_end(&mut text, *child, *status)?
-            }
-            SpawnEvent::Polled(child, Poll::Lost) => write_mark(&mut text, *child, b"? ")?,
-        }
+        write_event(&mut text, event)?;
     }
     Ok(text)
+}
+
+fn write_event(text: &mut Text, event: &SpawnEvent) -> Result<(), NoMemory> {
+    match event {
+        SpawnEvent::Began { start, child, .. } => {
+            write_mark(text, *child, b"+")?;
+            write_texts(text, start)
+        }
+        SpawnEvent::Unbegun { start, .. } => {
+            text.push(b'!')?;
+            write_texts(text, start)
+        }
+        SpawnEvent::Polled(child, Poll::Runs) => write_mark(text, *child, b". "),
+        SpawnEvent::Polled(child, Poll::Over(status)) => write_end(text, *child, *status),
+        SpawnEvent::Polled(child, Poll::Lost) => write_mark(text, *child, b"? "),
+    }
 }
 
 fn write_texts(text: &mut Text, start: &Start) -> Result<(), NoMemory> {
@@ -210,15 +210,6 @@ fn write_texts(text: &mut Text, start: &Start) -> Result<(), NoMemory> {
     }
     text.extend(start.input.bytes())?;
     text.push(b' ')
-}
-
-// What a spawner told that lacked no memory.
-fn whole(alloc: Global, spawner: &ScriptSpawner) -> Result<Text, NoMemory> {
-    let (_shown, hidden) = failures(spawner);
-    if spawner.starved > 0 || hidden > 0 {
-        return Err(NoMemory);
-    }
-    told(alloc, spawner.seen())
 }
 
 // How many failed calls were told, and how many weren't.
@@ -239,18 +230,38 @@ fn failures(spawner: &ScriptSpawner) -> (u64, u64) {
     (shown, hidden)
 }
 
+// Whether a spawner told what one told that lacked no memory, but for the calls that it only counts.
+fn is_retold(
+    alloc: Global,
+    spawner: &ScriptSpawner,
+    listed: &ScriptSpawner,
+) -> Result<bool, NoMemory> {
+    let (_told, missed) = failures(listed);
+    if listed.starved > 0 || missed > 0 {
+        return Err(NoMemory);
+    }
+    let whole = told(alloc, listed.seen())?;
+    let told = told(alloc, spawner.seen())?;
+    let (_shown, hidden) = failures(spawner);
+    Ok(left_out(&told, &whole) == Some(hidden))
+}
+
 impl Row {
     // Where memory wasn't wanting, all is as the row has it. Where it was, each failed call is told
     // or counted all the same, and all is as where those calls are listed.
-    fn is_played(&self, alloc: Global, spawner: &mut ScriptSpawner) -> Result<bool, NoMemory> {
-        let mut went = Course::new(alloc);
-        play(spawner, self.acts, &mut went)?;
+    fn is_played(
+        &self,
+        alloc: Global,
+        spawner: &mut ScriptSpawner,
+        went: &mut Course,
+    ) -> Result<bool, NoMemory> {
+        play(spawner, self.acts, went)?;
         let (shown, hidden) = failures(spawner);
         Ok(
             shown.saturating_add(hidden) == spawner.calls.faults
                 && spawner.starved == unlisted(&went.failed, self.failing)
-                && (spawner.starved > 0 || hidden > 0 || self.is_whole(alloc, spawner, &went)?)
-                && self.is_repeated(alloc, spawner, &went)?,
+                && (spawner.starved > 0 || hidden > 0 || self.is_whole(alloc, spawner, went)?)
+                && self.is_repeated(alloc, spawner, went)?,
         )
     }
 
@@ -277,19 +288,17 @@ impl Row {
         let mut listed = spawner_of(alloc, first.failed.items())?;
         let mut again = Course::new(alloc);
         play(&mut listed, self.acts, &mut again)?;
-        let whole = whole(alloc, &listed)?;
-        let told = told(alloc, spawner.seen())?;
-        let (_shown, hidden) = failures(spawner);
         Ok(
-            again.text == first.text
-                && listed.calls.faults == spawner.calls.faults
-                && left_out(&told, &whole) == Some(hidden),
+            is_retold(alloc, spawner, &listed)?
+                && again.text == first.text
+                && listed.calls.faults == spawner.calls.faults,
         )
     }
 
     fn plays(&self, alloc: Global) -> Result<bool, NoMemory> {
         let mut spawner = spawner_of(alloc, self.failing)?;
-        self.is_played(alloc, &mut spawner)
+        let mut went = Course::new(alloc);
+        self.is_played(alloc, &mut spawner, &mut went)
     }
 }
 
