@@ -1,8 +1,10 @@
 //! The lines of a file, with its repeats and uses written out.
 
+use crate::number::given_number;
 use crate::substitution::{Given, add_given};
-use crate::text::parted;
-use crate::{Bad, Refusal, number_of};
+use crate::text::{first_word, parted};
+use crate::{Bad, Refusal};
+use bstr::ByteSlice;
 use mail_base::{NoMemory, Seq, Text};
 use std::alloc::Global;
 
@@ -12,8 +14,8 @@ const MOST_LINES: u32 = 1_000_000;
 /// How deep uses and repeats may stand in each other.
 const DEEPEST: usize = 8;
 
-/// A line as it is written out, and the number of the line of the file that it comes of; of a line of
-/// a block that of the use.
+/// A line as it is written out, and the number of the line of the file that it comes of; of a line
+/// of a block that of the use.
 #[derive(Drop)]
 pub struct Line {
     pub number: u32,
@@ -34,50 +36,41 @@ struct Frame {
     arguments: Option<Text>,
 }
 
-// What is to be done with a line.
-#[derive(Clone, Copy)]
-enum Step<'a> {
-    Takes,
-    Skips(usize),
-    Repeats(u64, u64),
-    Uses(&'a [u8]),
+/// The lines of a file, with its repeats and uses written out. Empty ones and comments are left
+/// out.
+pub fn expanded(alloc: Global, file: &[u8]) -> Result<Seq<Line>, Refusal> {
+    let mut lines = Seq::new(alloc);
+    let mut line = 0u32;
+    match write_out(alloc, file, &mut line, &mut lines) {
+        Ok(()) => Ok(lines),
+        Err(why) => Err(Refusal { line, why }),
+    }
 }
 
-/// The lines of a file, with its repeats and uses written out; empty ones and comments are left out.
-pub fn expanded(alloc: Global, file: &[u8]) -> Result<Seq<Line>, Refusal> {
-    let first = Refusal {
-        line: 0,
-        why: Bad::NoMemory,
-    };
-    let Ok(source) = lines_of(alloc, file) else {
-        return Err(first);
-    };
-    let mut at = 0u32;
-    match written_out(alloc, &source, &mut at) {
-        Ok(lines) => Ok(lines),
-        Err(why) => Err(Refusal { line: at, why }),
-    }
+// Adds all lines of a file, and tells the number of the one that it is at.
+fn write_out(alloc: Global, file: &[u8], at: &mut u32, lines: &mut Seq<Line>) -> Result<(), Bad> {
+    let source = lines_of(alloc, file)?;
+    let mut frames = Vec::new(alloc);
+    push_frame(&mut frames, whole(source.len()))?;
+    go_over(&source, at, &mut frames, lines)
 }
 
 fn lines_of(alloc: Global, file: &[u8]) -> Result<Vec<&[u8]>, NoMemory> {
-    let mut lines = Vec::new(alloc);
-    for line in file.split(|byte| *byte == b'\n') {
-        lines.push(line)?;
-    }
-    Ok(lines)
+    Ok(file.split(|byte| *byte == b'\n').collect(alloc)?)
 }
 
-// Goes over all lines, and tells the number of the one that it is at.
-fn written_out(alloc: Global, source: &[&[u8]], at: &mut u32) -> Result<Seq<Line>, Bad> {
-    let mut lines = Seq::new(alloc);
-    let mut frames = Vec::new(alloc);
-    push_frame(&mut frames, whole(source.len()))?;
+fn go_over(
+    source: &[&[u8]],
+    at: &mut u32,
+    frames: &mut Vec<Frame>,
+    lines: &mut Seq<Line>,
+) -> Result<(), Bad> {
     for _ in 0..MOST_LINES {
-        let Some(place) = next_place(&mut frames) else {
-            return Ok(lines);
+        let Some(place) = next_place(frames) else {
+            return Ok(());
         };
         *at = place.saturating_add(1).min(1_000_000_000) as u32;
-        take(source, place, *at, &mut frames, &mut lines)?;
+        take(source, place, *at, frames, lines)?;
     }
     Err(Bad::Large)
 }
@@ -158,15 +151,31 @@ fn take(
         add_given(&mut text, line, frame.given())?;
     }
     let number = user_of(frames).unwrap_or(number);
-    match step_of(source, place, text.bytes())? {
-        Step::Takes => Ok(lines.push(Line { number, text })?),
-        Step::Skips(end) => {
-            skip(frames, end);
-            Ok(())
-        }
-        Step::Repeats(first, last) => repeat(source, place, first, last, frames),
-        Step::Uses(words) => use_block(source, place, number, words, frames),
+    if is_plain(source, place, number, text.bytes(), frames)? {
+        lines.push(Line { number, text })?;
     }
+    Ok(())
+}
+
+// Whether a line stands for itself. Else the lines that it stands for come next.
+fn is_plain(
+    source: &[&[u8]],
+    place: usize,
+    number: u32,
+    line: &[u8],
+    frames: &mut Vec<Frame>,
+) -> Result<bool, Bad> {
+    let (word, rest) = first_word(line);
+    if word == b"block".as_slice() {
+        skip(frames, end_of(source, place)?);
+    } else if word == b"repeat".as_slice() {
+        repeat(source, place, turns_of(rest)?, frames)?;
+    } else if word == b"use".as_slice() {
+        use_block(source, place, number, rest, frames)?;
+    } else {
+        return Ok(true);
+    }
+    Ok(false)
 }
 
 // The line of the use that lines stand for.
@@ -174,34 +183,11 @@ fn user_of(frames: &[Frame]) -> Option<u32> {
     frames.last()?.user
 }
 
-fn step_of<'a>(source: &[&[u8]], place: usize, line: &'a [u8]) -> Result<Step<'a>, Bad> {
-    let (word, rest) = parted(line, b' ').unwrap_or((line, &[]));
-    match word {
-        b"block" => Ok(Step::Skips(end_of(source, place)?)),
-        b"repeat" => {
-            let (first, last) = turns_of(rest)?;
-            Ok(Step::Repeats(first, last))
-        }
-        b"use" => Ok(Step::Uses(rest)),
-        _ => Ok(Step::Takes),
-    }
-}
-
 // The turns of a repeat: `N`, or `A..B`.
 fn turns_of(words: &[u8]) -> Result<(u64, u64), Bad> {
-    let Some((first, behind)) = parted(words, b'.') else {
-        return Ok((1, number_of(words).ok_or(Bad::Number)?));
-    };
-    let last = behind.strip_prefix(b".".as_slice()).ok_or(Bad::Number)?;
-    let first = number_of(first).ok_or(Bad::Number)?;
-    Ok((first, number_of(last).ok_or(Bad::Number)?))
-}
-
-// Whether a line begins with a word.
-fn begins(line: &[u8], word: &[u8]) -> bool {
-    match parted(line, b' ') {
-        Some((first, _rest)) => first == word,
-        None => line == word,
+    match words.split_once_str(b"..") {
+        Some((first, last)) => Ok((given_number(first)?, given_number(last)?)),
+        None => Ok((1, given_number(words)?)),
     }
 }
 
@@ -212,10 +198,11 @@ fn end_of(source: &[&[u8]], place: usize) -> Result<usize, Bad> {
         let Some(line) = source.get(at) else {
             return Err(Bad::NoEnd);
         };
-        if begins(line, b"repeat") || begins(line, b"block") {
+        let (word, _rest) = first_word(line);
+        if word == b"repeat".as_slice() || word == b"block".as_slice() {
             open = open.saturating_add(1);
         }
-        if begins(line, b"end") {
+        if word == b"end".as_slice() {
             open = open.saturating_sub(1);
             if open == 0 {
                 return Ok(at);
@@ -235,8 +222,7 @@ fn skip(frames: &mut Vec<Frame>, end: usize) {
 fn repeat(
     source: &[&[u8]],
     place: usize,
-    first: u64,
-    last: u64,
+    (first, last): (u64, u64),
     frames: &mut Vec<Frame>,
 ) -> Result<(), Bad> {
     let end = end_of(source, place)?;
@@ -313,10 +299,8 @@ fn block_of(source: &[&[u8]], place: usize, name: &[u8]) -> Result<usize, Bad> {
         let Some(line) = source.get(at) else {
             return Err(Bad::NoBlock);
         };
-        if let Some((word, rest)) = parted(line, b' ') {
-            if word == b"block".as_slice() && rest == name {
-                return Ok(at);
-            }
+        if line.strip_prefix(b"block ".as_slice()) == Some(name) {
+            return Ok(at);
         }
     }
     Err(Bad::NoBlock)

@@ -1,5 +1,6 @@
 use crate::Word;
 use mail_base::{NoMemory, Text, TryCopy};
+use std::alloc::Global;
 
 /// A line of a scene, with the `|` lines below it: a name, as of a file, letters or numbers that
 /// stand beside it, and the bytes of the lines.
@@ -38,9 +39,8 @@ impl Drop for Item {
 }
 
 impl Item {
-    /// An item of that name alone.
-    pub(crate) fn new(word: Word, line: u32, name: Text) -> Item {
-        let alloc = name.allocator();
+    /// An item of that word alone.
+    pub(crate) fn new(alloc: Global, word: Word, line: u32) -> Item {
         Item {
             word,
             line,
@@ -49,7 +49,7 @@ impl Item {
             number: 0,
             session: 0,
             seconds: 0,
-            name,
+            name: Text::new(alloc),
             beside: Text::new(alloc),
             body: Text::new(alloc),
         }

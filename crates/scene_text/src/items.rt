@@ -1,22 +1,35 @@
 //! Items of the words that begin lines.
 
-use crate::number::seconds_of;
-use crate::text::{add_text, parted, put_word};
+use crate::number::{given_number, seconds_of};
+use crate::text::{add_text, first_word, parted, put_word};
 use crate::{Bad, Device, Item, Play, Word, number_of};
+use bstr::ByteSlice;
 use mail_base::Text;
 use std::alloc::Global;
 
 /// What a line that begins with a word is.
 #[derive(Clone, Copy)]
 pub(crate) enum Form {
-    /// An item with nothing beside its word.
-    Alone(Word),
-    /// An item with a text, which may be empty.
-    Text(Word),
-    /// An item with a name.
-    Named(Word),
-    /// An item with a number.
-    Number(Word),
+    Scene,
+    Like,
+    Then,
+    Play,
+    Files,
+    No,
+    /// An item, with this beside its word.
+    Item(Word, Beside),
+}
+
+/// What stands beside the word of an item.
+#[derive(Clone, Copy)]
+pub(crate) enum Beside {
+    Nothing,
+    /// The second of two words.
+    Second(&'static str),
+    /// A text, which may be empty.
+    Text,
+    Name,
+    Number,
     Words,
     Clock,
     Fail,
@@ -28,80 +41,67 @@ pub(crate) enum Form {
     Lines,
     Count,
     Calls,
-    Scene,
-    Like,
-    Then,
-    Files,
-    No,
-    Play,
-    /// Two words together.
-    Pair(&'static str, Word),
 }
+
+// What each word begins.
+static FORMS: [(&str, Form); 41] = [
+    ("scene", Form::Scene),
+    ("like", Form::Like),
+    ("then", Form::Then),
+    ("play", Form::Play),
+    ("files", Form::Files),
+    ("no", Form::No),
+    ("words", Form::Item(Word::Words, Beside::Words)),
+    ("config", Form::Item(Word::Config, Beside::Text)),
+    ("front", Form::Item(Word::Front, Beside::Nothing)),
+    ("behind", Form::Item(Word::Behind, Beside::Nothing)),
+    ("file", Form::Item(Word::File, Beside::Name)),
+    ("held", Form::Item(Word::Held, Beside::Name)),
+    ("clock", Form::Item(Word::Clock, Beside::Clock)),
+    ("fail", Form::Item(Word::Fail, Beside::Fail)),
+    ("stop", Form::Item(Word::Stop, Beside::Stop)),
+    ("session", Form::Item(Word::Session, Beside::Text)),
+    ("in", Form::Item(Word::In, Beside::Number)),
+    ("piece", Form::Item(Word::Piece, Beside::Nothing)),
+    ("close", Form::Item(Word::Close, Beside::Nothing)),
+    ("rest", Form::Item(Word::Rest, Beside::Rest)),
+    ("hung", Form::Item(Word::HungUp, Beside::Second("up"))),
+    ("..", Form::Item(Word::Any, Beside::Nothing)),
+    ("replies", Form::Item(Word::Replies, Beside::Replies)),
+    ("child", Form::Item(Word::Child, Beside::Child)),
+    ("runs", Form::Item(Word::Runs, Beside::Number)),
+    ("exit", Form::Item(Word::Exit, Beside::Number)),
+    ("lost", Form::Item(Word::Lost, Beside::Nothing)),
+    (
+        "not",
+        Form::Item(Word::NotStarted, Beside::Second("started")),
+    ),
+    ("peer", Form::Item(Word::Peer, Beside::Text)),
+    ("refused", Form::Item(Word::Refused, Beside::Nothing)),
+    ("broken", Form::Item(Word::Broken, Beside::Nothing)),
+    ("status", Form::Item(Word::Status, Beside::Status)),
+    ("queue", Form::Item(Word::Queue, Beside::Name)),
+    ("stays", Form::Item(Word::Stays, Beside::Name)),
+    ("there", Form::Item(Word::There, Beside::Name)),
+    ("absent", Form::Item(Word::Absent, Beside::Name)),
+    ("lines", Form::Item(Word::Lines, Beside::Lines)),
+    ("count", Form::Item(Word::Count, Beside::Count)),
+    (
+        "nothing",
+        Form::Item(Word::NothingElse, Beside::Second("else")),
+    ),
+    ("calls", Form::Item(Word::Calls, Beside::Calls)),
+    ("begins", Form::Item(Word::Begins, Beside::Name)),
+];
 
 /// What a word begins.
 pub(crate) fn form_of(word: &[u8]) -> Result<Form, Bad> {
-    match word {
-        b"scene" => Ok(Form::Scene),
-        b"like" => Ok(Form::Like),
-        b"then" => Ok(Form::Then),
-        b"play" => Ok(Form::Play),
-        b"words" => Ok(Form::Words),
-        b"config" => Ok(Form::Text(Word::Config)),
-        b"front" => Ok(Form::Alone(Word::Front)),
-        b"behind" => Ok(Form::Alone(Word::Behind)),
-        b"file" => Ok(Form::Named(Word::File)),
-        b"files" => Ok(Form::Files),
-        b"no" => Ok(Form::No),
-        b"held" => Ok(Form::Named(Word::Held)),
-        b"clock" => Ok(Form::Clock),
-        b"fail" => Ok(Form::Fail),
-        b"stop" => Ok(Form::Stop),
-        _ => form_of_turn(word),
+    for (name, form) in FORMS.iter() {
+        if name.as_bytes() == word {
+            return Ok(*form);
+        }
     }
-}
-
-fn form_of_turn(word: &[u8]) -> Result<Form, Bad> {
-    match word {
-        b"session" => Ok(Form::Text(Word::Session)),
-        b"in" => Ok(Form::Number(Word::In)),
-        b"piece" => Ok(Form::Alone(Word::Piece)),
-        b"close" => Ok(Form::Alone(Word::Close)),
-        b"rest" => Ok(Form::Rest),
-        b"hung" => Ok(Form::Pair("up", Word::HungUp)),
-        b".." => Ok(Form::Alone(Word::Any)),
-        b"replies" => Ok(Form::Replies),
-        _ => form_of_delivery(word),
-    }
-}
-
-fn form_of_delivery(word: &[u8]) -> Result<Form, Bad> {
-    match word {
-        b"child" => Ok(Form::Child),
-        b"runs" => Ok(Form::Number(Word::Runs)),
-        b"exit" => Ok(Form::Number(Word::Exit)),
-        b"lost" => Ok(Form::Alone(Word::Lost)),
-        b"not" => Ok(Form::Pair("started", Word::NotStarted)),
-        b"peer" => Ok(Form::Text(Word::Peer)),
-        b"refused" => Ok(Form::Alone(Word::Refused)),
-        b"broken" => Ok(Form::Alone(Word::Broken)),
-        _ => form_of_want(word),
-    }
-}
-
-fn form_of_want(word: &[u8]) -> Result<Form, Bad> {
-    match word {
-        b"status" => Ok(Form::Status),
-        b"queue" => Ok(Form::Named(Word::Queue)),
-        b"stays" => Ok(Form::Named(Word::Stays)),
-        b"there" => Ok(Form::Named(Word::There)),
-        b"absent" => Ok(Form::Named(Word::Absent)),
-        b"lines" => Ok(Form::Lines),
-        b"count" => Ok(Form::Count),
-        b"nothing" => Ok(Form::Pair("else", Word::NothingElse)),
-        b"calls" => Ok(Form::Calls),
-        b"begins" => Ok(Form::Named(Word::Begins)),
-        _ => Err(Bad::Unknown),
-    }
+    Err(Bad::Unknown)
 }
 
 /// The text that is written.
@@ -111,128 +111,144 @@ pub(crate) fn text_of(alloc: Global, written: &[u8]) -> Result<Text, Bad> {
     Ok(text)
 }
 
-/// The item of a form whose line has this behind its word.
-pub(crate) fn item_of(alloc: Global, form: Form, line: u32, rest: &[u8]) -> Result<Item, Bad> {
-    match form {
-        Form::Alone(word) => alone(alloc, word, line, rest, b""),
-        Form::Pair(second, word) => alone(alloc, word, line, rest, second.as_bytes()),
-        Form::Text(word) => named(alloc, word, line, rest),
-        Form::Named(_) if rest.is_empty() => Err(Bad::Name),
-        Form::Named(word) => named(alloc, word, line, rest),
-        Form::Number(word) => numbered(alloc, word, line, rest),
-        Form::Words => words(alloc, line, rest),
-        Form::Clock => clock(alloc, line, rest),
-        Form::Fail => fail(alloc, line, rest),
-        Form::Stop => stop(alloc, line, rest),
-        Form::Rest => rests(alloc, line, rest),
-        Form::Child => child(alloc, line, rest),
-        _ => want(alloc, form, line, rest),
+/// Fills an item with what stands beside its word.
+pub(crate) fn fill(item: &mut Item, beside: Beside, rest: &[u8]) -> Result<(), Bad> {
+    match beside {
+        Beside::Nothing => only(rest, b""),
+        Beside::Second(word) => only(rest, word.as_bytes()),
+        Beside::Text => add_text(&mut item.name, rest),
+        Beside::Name => name(item, rest),
+        Beside::Number => number(item, rest),
+        Beside::Words => words(item, rest),
+        Beside::Clock => clock(item, rest),
+        Beside::Fail => fail(item, rest),
+        Beside::Stop => stop(item, rest),
+        Beside::Rest => rests(item, rest),
+        Beside::Child => child(item, rest),
+        Beside::Replies => replies(item, rest),
+        Beside::Status => status(item, rest),
+        Beside::Lines => lettered(item, rest),
+        Beside::Count => count(item, rest),
+        Beside::Calls => calls(item, rest),
     }
 }
 
-fn want(alloc: Global, form: Form, line: u32, rest: &[u8]) -> Result<Item, Bad> {
-    match form {
-        Form::Replies => replies(alloc, line, rest),
-        Form::Status => status(alloc, line, rest),
-        Form::Lines => lettered(alloc, Word::Lines, line, rest),
-        Form::Count => count(alloc, line, rest),
-        Form::Calls => calls(alloc, line, rest),
-        _ => Err(Bad::Unwanted),
+fn only(rest: &[u8], wanted: &[u8]) -> Result<(), Bad> {
+    if rest == wanted {
+        Ok(())
+    } else {
+        Err(Bad::Name)
     }
 }
 
-fn alone(alloc: Global, word: Word, line: u32, rest: &[u8], wanted: &[u8]) -> Result<Item, Bad> {
-    if rest != wanted {
+fn name(item: &mut Item, rest: &[u8]) -> Result<(), Bad> {
+    if rest.is_empty() {
         return Err(Bad::Name);
     }
-    Ok(Item::new(word, line, Text::new(alloc)))
+    add_text(&mut item.name, rest)
 }
 
-fn named(alloc: Global, word: Word, line: u32, name: &[u8]) -> Result<Item, Bad> {
-    Ok(Item::new(word, line, text_of(alloc, name)?))
-}
-
-fn numbered(alloc: Global, word: Word, line: u32, number: &[u8]) -> Result<Item, Bad> {
-    let mut item = Item::new(word, line, Text::new(alloc));
-    item.number = number_of(number).ok_or(Bad::Number)?;
-    Ok(item)
+fn number(item: &mut Item, digits: &[u8]) -> Result<(), Bad> {
+    item.number = given_number(digits)?;
+    Ok(())
 }
 
 // Words, each of which a NUL ends.
-fn words(alloc: Global, line: u32, rest: &[u8]) -> Result<Item, Bad> {
-    let mut item = Item::new(Word::Words, line, Text::new(alloc));
+fn words(item: &mut Item, rest: &[u8]) -> Result<(), Bad> {
     if rest.is_empty() {
-        return Ok(item);
+        return Ok(());
     }
-    for word in rest.split(|byte| *byte == b' ') {
+    for word in rest.split(is_space) {
         add_text(&mut item.name, word)?;
         item.name.push(0)?;
     }
-    Ok(item)
+    Ok(())
+}
+
+fn is_space(byte: &u8) -> bool {
+    *byte == b' '
 }
 
 // A program and its words, parted by blanks; a blank in a word is written as a code.
-fn child(alloc: Global, line: u32, rest: &[u8]) -> Result<Item, Bad> {
-    let mut item = Item::new(Word::Child, line, Text::new(alloc));
+fn child(item: &mut Item, rest: &[u8]) -> Result<(), Bad> {
     if rest.is_empty() {
-        return Ok(item);
+        return Ok(());
     }
-    for word in rest.split(|byte| *byte == b' ') {
-        let word = text_of(alloc, word)?;
-        put_word(&mut item.name, word.bytes())?;
+    for word in rest.split(is_space) {
+        add_child_word(&mut item.name, word)?;
     }
-    Ok(item)
+    Ok(())
+}
+
+fn add_child_word(words: &mut Text, written: &[u8]) -> Result<(), Bad> {
+    let word = text_of(words.allocator(), written)?;
+    put_word(words, word.bytes())?;
+    Ok(())
 }
 
 // A first reading and a step; or, with `later` beside it, a time from the clock before.
-fn clock(alloc: Global, line: u32, rest: &[u8]) -> Result<Item, Bad> {
+fn clock(item: &mut Item, rest: &[u8]) -> Result<(), Bad> {
     let (start, step) = parted(rest, b' ').unwrap_or((rest, b"0"));
-    let mut item = Item::new(Word::Clock, line, Text::new(alloc));
     if step == b"later".as_slice() {
         item.number = seconds_of(start).ok_or(Bad::Number)?;
         item.beside.extend(step)?;
-        return Ok(item);
+        return Ok(());
     }
-    item.number = number_of(start).ok_or(Bad::Number)?;
-    item.seconds = number_of(step).ok_or(Bad::Number)?;
-    Ok(item)
+    item.number = given_number(start)?;
+    item.seconds = given_number(step)?;
+    Ok(())
 }
 
 // A call of the queue, and beside it what is left of what it does.
-fn stop(alloc: Global, line: u32, rest: &[u8]) -> Result<Item, Bad> {
-    let (number, left) = parted(rest, b' ').unwrap_or((rest, &[]));
-    if !matches!(left, b"" | b"empty" | b"half" | b"done") {
+fn stop(item: &mut Item, rest: &[u8]) -> Result<(), Bad> {
+    let (number, left) = first_word(rest);
+    if !is_left(left) {
         return Err(Bad::Name);
     }
-    let mut item = numbered(alloc, Word::Stop, line, number)?;
+    item.number = given_number(number)?;
     item.beside.extend(left)?;
-    Ok(item)
+    Ok(())
+}
+
+static LEFT: [&str; 4] = ["", "empty", "half", "done"];
+
+fn is_left(word: &[u8]) -> bool {
+    for name in LEFT.iter() {
+        if name.as_bytes() == word {
+            return true;
+        }
+    }
+    false
 }
 
 // So many turns, or one for which a time goes by.
-fn rests(alloc: Global, line: u32, rest: &[u8]) -> Result<Item, Bad> {
-    let mut item = Item::new(Word::Rest, line, Text::new(alloc));
+fn rests(item: &mut Item, rest: &[u8]) -> Result<(), Bad> {
     item.number = 1;
     if rest.is_empty() {
-        return Ok(item);
+        return Ok(());
     }
     match number_of(rest) {
         Some(number) => item.number = number,
         None => item.seconds = seconds_of(rest).ok_or(Bad::Number)?,
     }
-    Ok(item)
+    Ok(())
 }
 
 // A device, and beside it the numbers of its calls, which blanks part.
-fn fail(alloc: Global, line: u32, rest: &[u8]) -> Result<Item, Bad> {
-    let (device, numbers) = parted(rest, b' ').unwrap_or((rest, &[]));
-    let _device = Device::of(device).ok_or(Bad::Name)?;
-    if !numbers.is_empty() && !numbers.split(|byte| *byte == b' ').all(is_number) {
+fn fail(item: &mut Item, rest: &[u8]) -> Result<(), Bad> {
+    let (device, numbers) = first_word(rest);
+    name_device(item, device)?;
+    if !numbers.is_empty() && !numbers.split(is_space).all(is_number) {
         return Err(Bad::Number);
     }
-    let mut item = named(alloc, Word::Fail, line, device)?;
     item.beside.extend(numbers)?;
-    Ok(item)
+    Ok(())
+}
+
+fn name_device(item: &mut Item, name: &[u8]) -> Result<(), Bad> {
+    let device = Device::of(name).ok_or(Bad::Name)?;
+    item.name.extend(device.name().as_bytes())?;
+    Ok(())
 }
 
 fn is_number(digits: &[u8]) -> bool {
@@ -240,75 +256,79 @@ fn is_number(digits: &[u8]) -> bool {
 }
 
 // `replies`, `replies any`, `replies first N`, and each with the number of a session in front.
-fn replies(alloc: Global, line: u32, rest: &[u8]) -> Result<Item, Bad> {
-    let (first, behind) = parted(rest, b' ').unwrap_or((rest, &[]));
+fn replies(item: &mut Item, rest: &[u8]) -> Result<(), Bad> {
+    let (first, behind) = first_word(rest);
     match number_of(first) {
         Some(session) => {
-            let mut item = replies_of(alloc, line, behind)?;
             item.session = session;
-            Ok(item)
+            replies_of(item, behind)
         }
-        None => replies_of(alloc, line, rest),
+        None => replies_of(item, rest),
     }
 }
 
-fn replies_of(alloc: Global, line: u32, rest: &[u8]) -> Result<Item, Bad> {
-    match rest {
-        b"" => Ok(Item::new(Word::Replies, line, Text::new(alloc))),
-        b"any" => Ok(Item::new(Word::RepliesAny, line, Text::new(alloc))),
-        _ => {
-            let number = rest.strip_prefix(b"first ".as_slice()).ok_or(Bad::Name)?;
-            numbered(alloc, Word::RepliesFirst, line, number)
-        }
+fn replies_of(item: &mut Item, rest: &[u8]) -> Result<(), Bad> {
+    if rest.is_empty() {
+        return Ok(());
     }
+    if rest == b"any".as_slice() {
+        item.word = Word::RepliesAny;
+        return Ok(());
+    }
+    item.word = Word::RepliesFirst;
+    number(
+        item,
+        rest.strip_prefix(b"first ".as_slice()).ok_or(Bad::Name)?,
+    )
 }
 
 // A status, and beside it the line of standard error, where that is to be compared.
-fn status(alloc: Global, line: u32, rest: &[u8]) -> Result<Item, Bad> {
-    let (number, told) = parted(rest, b' ').unwrap_or((rest, &[]));
-    let mut item = numbered(alloc, Word::Status, line, number)?;
-    add_text(&mut item.name, told)?;
-    Ok(item)
+fn status(item: &mut Item, rest: &[u8]) -> Result<(), Bad> {
+    let (number, told) = first_word(rest);
+    item.number = given_number(number)?;
+    add_text(&mut item.name, told)
 }
 
 // A file, and beside it letters.
-fn lettered(alloc: Global, word: Word, line: u32, rest: &[u8]) -> Result<Item, Bad> {
+fn lettered(item: &mut Item, rest: &[u8]) -> Result<(), Bad> {
     let (letters, name) = parted(rest, b' ').ok_or(Bad::Name)?;
-    let mut item = named(alloc, word, line, name)?;
-    add_text(&mut item.beside, letters)?;
-    Ok(item)
+    add_text(&mut item.name, name)?;
+    add_text(&mut item.beside, letters)
 }
 
-fn count(alloc: Global, line: u32, rest: &[u8]) -> Result<Item, Bad> {
-    let at = rest
-        .iter()
-        .rposition(|byte| *byte == b' ')
-        .ok_or(Bad::Number)?;
-    let number = rest.get(at.saturating_add(1)..).ok_or(Bad::Number)?;
-    let mut item = lettered(alloc, Word::Count, line, rest.get(..at).ok_or(Bad::Name)?)?;
-    item.number = number_of(number).ok_or(Bad::Number)?;
-    Ok(item)
+fn count(item: &mut Item, rest: &[u8]) -> Result<(), Bad> {
+    let (front, digits) = rest.rsplit_once_str(b" ").ok_or(Bad::Number)?;
+    lettered(item, front)?;
+    number(item, digits)
 }
 
-fn calls(alloc: Global, line: u32, rest: &[u8]) -> Result<Item, Bad> {
-    let (device, number) = parted(rest, b' ').ok_or(Bad::Number)?;
-    let _device = Device::of(device).ok_or(Bad::Name)?;
-    let mut item = named(alloc, Word::Calls, line, device)?;
-    item.number = number_of(number).ok_or(Bad::Number)?;
-    Ok(item)
+fn calls(item: &mut Item, rest: &[u8]) -> Result<(), Bad> {
+    let (device, digits) = parted(rest, b' ').ok_or(Bad::Number)?;
+    name_device(item, device)?;
+    number(item, digits)
 }
+
+static PLAYS: [(&str, Play); 3] = [
+    ("cut", Play::Cut),
+    ("stream", Play::Stream),
+    ("failing", Play::Failing),
+];
 
 /// The play of a line.
 pub(crate) fn play_of(rest: &[u8]) -> Result<Play, Bad> {
-    let (word, behind) = parted(rest, b' ').unwrap_or((rest, &[]));
-    match word {
-        b"cut" if behind.is_empty() => Ok(Play::Cut),
-        b"stream" if behind.is_empty() => Ok(Play::Stream),
-        b"failing" if behind.is_empty() => Ok(Play::Failing),
-        b"stopped" => stopped(behind),
-        b"random" => random(behind),
-        _ => Err(Bad::Name),
+    let (word, behind) = first_word(rest);
+    if word == b"stopped".as_slice() {
+        return stopped(behind);
     }
+    if word == b"random".as_slice() {
+        return random(behind);
+    }
+    for (name, play) in PLAYS.iter() {
+        if behind.is_empty() && name.as_bytes() == word {
+            return Ok(*play);
+        }
+    }
+    Err(Bad::Name)
 }
 
 // Nothing, or how many calls there are, and behind it how many of them change what is there.
@@ -317,14 +337,14 @@ fn stopped(words: &[u8]) -> Result<Play, Bad> {
         return Ok(Play::Stopped(None, None));
     }
     let Some((calls, changes)) = parted(words, b' ') else {
-        return Ok(Play::Stopped(Some(number_of(words).ok_or(Bad::Number)?), None));
+        return Ok(Play::Stopped(Some(given_number(words)?), None));
     };
-    let calls = number_of(calls).ok_or(Bad::Number)?;
-    Ok(Play::Stopped(Some(calls), Some(number_of(changes).ok_or(Bad::Number)?)))
+    let calls = given_number(calls)?;
+    Ok(Play::Stopped(Some(calls), Some(given_number(changes)?)))
 }
 
 fn random(words: &[u8]) -> Result<Play, Bad> {
     let (seed, times) = parted(words, b' ').ok_or(Bad::Number)?;
-    let seed = number_of(seed).ok_or(Bad::Number)?;
-    Ok(Play::Random(seed, number_of(times).ok_or(Bad::Number)?))
+    let seed = given_number(seed)?;
+    Ok(Play::Random(seed, given_number(times)?))
 }

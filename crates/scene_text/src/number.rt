@@ -1,3 +1,4 @@
+use crate::Bad;
 use mail_base::{NoMemory, Text};
 
 /// The number of decimal digits, one at least, below 2^64.
@@ -13,6 +14,11 @@ pub fn number_of(digits: &[u8]) -> Option<u64> {
         number = number.checked_mul(10)?.checked_add(u64::from(*digit & 15))?;
     }
     Some(number)
+}
+
+/// The number that has to stand there.
+pub(crate) fn given_number(digits: &[u8]) -> Result<u64, Bad> {
+    number_of(digits).ok_or(Bad::Number)
 }
 
 /// The seconds of a number with a unit behind it: `s`, `m`, `h`, `d` or `w`.

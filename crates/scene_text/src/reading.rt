@@ -1,8 +1,8 @@
 //! The scenes that lines say.
 
-use crate::items::{Form, form_of, item_of, play_of, text_of};
-use crate::taking::{add_item, behind, like, take_away};
-use crate::text::{add_text, parted};
+use crate::items::{Beside, Form, fill, form_of, play_of, text_of};
+use crate::taking::{Part, add_item, scene_named, take_away, taken_over};
+use crate::text::{add_text, first_word};
 use crate::{Bad, Item, Line, Refusal, Run, Scene, Word, expanded};
 use mail_base::{NoMemory, Seq, Text};
 use mail_edge::Files;
@@ -38,9 +38,9 @@ fn take_line<F: Files>(
     line: &Line,
 ) -> Result<(), Bad> {
     match line.text.bytes() {
-        [b'|', text @ ..] => add_body(last(scenes)?, text),
-        [b'>', text @ ..] => say(last(scenes)?, Word::Say, line.number, text),
-        [b'<', text @ ..] => say(last(scenes)?, Word::Told, line.number, text),
+        [b'|', text @ ..] => add_body(scenes, text),
+        [b'>', text @ ..] => say(scenes, Word::Say, line.number, text),
+        [b'<', text @ ..] => say(scenes, Word::Told, line.number, text),
         _ => take_word(files, folder, scenes, line),
     }
 }
@@ -78,7 +78,8 @@ fn ended(text: &[u8]) -> (&[u8], bool) {
 }
 
 // Adds a line to the bytes of the last item.
-fn add_body(scene: &mut Scene, text: &[u8]) -> Result<(), Bad> {
+fn add_body(scenes: &mut Vec<Scene>, text: &[u8]) -> Result<(), Bad> {
+    let scene = last(scenes)?;
     if !scene.is_open {
         return Err(Bad::NotOpen);
     }
@@ -86,12 +87,13 @@ fn add_body(scene: &mut Scene, text: &[u8]) -> Result<(), Bad> {
 }
 
 // A line of a transcript.
-fn say(scene: &mut Scene, word: Word, number: u32, text: &[u8]) -> Result<(), Bad> {
+fn say(scenes: &mut Vec<Scene>, word: Word, number: u32, text: &[u8]) -> Result<(), Bad> {
+    let scene = last(scenes)?;
     let (text, is_cut) = ended(marked(text)?);
     let run = last_run(scene)?;
-    let alloc = *run.items.allocator();
-    let mut item = Item::new(word, number, text_of(alloc, text)?);
+    let mut item = Item::new(*run.items.allocator(), word, number);
     item.cut = is_cut;
+    add_text(&mut item.name, text)?;
     if word == Word::Told {
         list(run, &mut item);
     }
@@ -117,8 +119,7 @@ fn take_word<F: Files>(
     scenes: &mut Vec<Scene>,
     line: &Line,
 ) -> Result<(), Bad> {
-    let text = line.text.bytes();
-    let (word, rest) = parted(text, b' ').unwrap_or((text, &[]));
+    let (word, rest) = first_word(line.text.bytes());
     match form_of(word)? {
         Form::Scene => begin(scenes, line.number, rest),
         Form::Like => begin_like(scenes, rest),
@@ -139,42 +140,53 @@ fn say_in<F: Files>(
     scene.is_open = false;
     scene.is_new = false;
     match form {
-        Form::No => leave_out(last_run(scene)?, rest),
-        Form::Files => add_files(files, folder, last_run(scene)?, rest),
-        Form::Play => Ok(scene.plays.push(play_of(rest)?).map_err(NoMemory::from)?),
-        _ => {
-            let alloc = *scene.runs.allocator();
-            let item = item_of(alloc, form, number, rest)?;
-            add_word(files, folder, scene, item)
+        Form::No => leave_out(scene, rest),
+        Form::Files => add_files(files, folder, scene, rest),
+        Form::Item(word, beside) => {
+            let mut item = Item::new(*scene.runs.allocator(), word, number);
+            complete(files, folder, scene, &mut item, beside, rest)?;
+            add_item(last_run(scene)?, item)
         }
+        _ => add_play(scene, rest),
     }
 }
 
-fn add_word<F: Files>(
+fn add_play(scene: &mut Scene, rest: &[u8]) -> Result<(), Bad> {
+    let play = play_of(rest)?;
+    scene.plays.push(play).map_err(NoMemory::from)?;
+    Ok(())
+}
+
+// Fills an item of a scene that has nothing but its word.
+fn complete<F: Files>(
     files: &mut F,
     folder: &[u8],
     scene: &mut Scene,
-    mut item: Item,
+    item: &mut Item,
+    beside: Beside,
+    rest: &[u8],
 ) -> Result<(), Bad> {
+    fill(item, beside, rest)?;
     scene.is_open = item.word.takes_lines();
     if item.word == Word::Config && !item.name.is_empty() {
         scene.is_open = false;
-        let alloc = item.name.allocator();
-        item.body = beside(alloc, files, folder, item.name.bytes(), b".cf")?;
+        item.body = bytes_beside(files, folder, &item.name, b".cf")?;
     }
-    let run = last_run(scene)?;
     if item.word == Word::Clock && !item.beside.is_empty() {
-        set_later(run, &mut item);
+        set_later(last_run(scene)?, item);
     }
-    add_item(run, item)
+    Ok(())
 }
 
 // Makes a clock that is later than the one that was taken over a clock of its own.
 fn set_later(run: &Run, item: &mut Item) {
     let mut start = FIRST_READING;
-    if let Some(before) = run.items.iter().find(|other| other.word == Word::Clock) {
-        start = before.number;
-        item.seconds = before.seconds;
+    for before in run.items.as_slice() {
+        if before.word == Word::Clock {
+            start = before.number;
+            item.seconds = before.seconds;
+            break;
+        }
     }
     item.number = start.saturating_add(item.number);
     item.beside.clear();
@@ -184,7 +196,7 @@ fn begin(scenes: &mut Vec<Scene>, line: u32, name: &[u8]) -> Result<(), Bad> {
     if name.is_empty() {
         return Err(Bad::Name);
     }
-    if scenes.iter().any(|scene| scene.name.bytes() == name) {
+    if scene_named(scenes, name).is_some() {
         return Err(Bad::Twice);
     }
     let alloc = *scenes.allocator();
@@ -209,7 +221,7 @@ fn scene_of(alloc: Global, line: u32, name: &[u8]) -> Result<Scene, NoMemory> {
 }
 
 fn begin_like(scenes: &mut Vec<Scene>, name: &[u8]) -> Result<(), Bad> {
-    let run = like(*scenes.allocator(), scenes, name, true)?;
+    let run = taken_over(*scenes.allocator(), first_run(scenes, name)?, Part::All)?;
     let scene = last(scenes)?;
     if !scene.is_new {
         return Err(Bad::NoLike);
@@ -220,9 +232,16 @@ fn begin_like(scenes: &mut Vec<Scene>, name: &[u8]) -> Result<(), Bad> {
     Ok(())
 }
 
+// The first run of the scene of that name.
+fn first_run<'a>(scenes: &'a [Scene], name: &[u8]) -> Result<&'a Run, Bad> {
+    let scene = scene_named(scenes, name).ok_or(Bad::NoLike)?;
+    scene.runs.first().ok_or(Bad::NoLike)
+}
+
 // A further run.
 fn go_on(scenes: &mut Vec<Scene>, rest: &[u8]) -> Result<(), Bad> {
-    let run = further(scenes, rest)?;
+    let (from, part) = kept_by(scenes, rest)?;
+    let run = taken_over(*scenes.allocator(), from, part)?;
     let scene = last(scenes)?;
     scene.is_open = false;
     scene.is_new = false;
@@ -230,20 +249,21 @@ fn go_on(scenes: &mut Vec<Scene>, rest: &[u8]) -> Result<(), Bad> {
     Ok(())
 }
 
-fn further(scenes: &[Scene], rest: &[u8]) -> Result<Run, Bad> {
+// What a further run takes over, and of which.
+fn kept_by<'a>(scenes: &'a [Scene], rest: &[u8]) -> Result<(&'a Run, Part), Bad> {
     let scene = scenes.last().ok_or(Bad::NoScene)?;
-    let alloc = *scene.runs.allocator();
     if let Some(name) = rest.strip_prefix(b"like ".as_slice()) {
-        return like(alloc, scenes, name, false);
+        return Ok((first_run(scenes, name)?, Part::AllButHeld));
     }
     if !rest.is_empty() {
         return Err(Bad::Name);
     }
-    behind(alloc, scene.runs.last().ok_or(Bad::NoScene)?)
+    Ok((scene.runs.last().ok_or(Bad::NoScene)?, Part::Stays))
 }
 
 // `no held`, or `no file NAME`.
-fn leave_out(run: &mut Run, rest: &[u8]) -> Result<(), Bad> {
+fn leave_out(scene: &mut Scene, rest: &[u8]) -> Result<(), Bad> {
+    let run = last_run(scene)?;
     if rest == b"held".as_slice() {
         take_away(run, Word::Held, None);
         return Ok(());
@@ -255,30 +275,36 @@ fn leave_out(run: &mut Run, rest: &[u8]) -> Result<(), Bad> {
 }
 
 // The bytes of a file in a folder.
-fn beside<F: Files>(
-    alloc: Global,
+fn bytes_beside<F: Files>(
     files: &mut F,
     folder: &[u8],
-    name: &[u8],
+    name: &Text,
     end: &[u8],
 ) -> Result<Text, Bad> {
-    let mut path = Text::of(alloc, folder)?;
-    path.extend(name)?;
-    path.extend(end)?;
-    match files.read(alloc, &path)? {
+    let mut path = Text::new(name.allocator());
+    put_path(&mut path, folder, name.bytes(), end)?;
+    match files.read(name.allocator(), &path)? {
         Some(bytes) => Ok(bytes),
         None => Err(Bad::NoFile),
     }
+}
+
+fn put_path(path: &mut Text, folder: &[u8], name: &[u8], end: &[u8]) -> Result<(), NoMemory> {
+    path.extend(folder)?;
+    path.extend(name)?;
+    path.extend(end)
 }
 
 // Adds the files of a list that stands beside it.
 fn add_files<F: Files>(
     files: &mut F,
     folder: &[u8],
-    run: &mut Run,
+    scene: &mut Scene,
     name: &[u8],
 ) -> Result<(), Bad> {
-    let bytes = beside(*run.items.allocator(), files, folder, name, b".files")?;
+    let run = last_run(scene)?;
+    let name = Text::of(*run.items.allocator(), name)?;
+    let bytes = bytes_beside(files, folder, &name, b".files")?;
     match expanded(bytes.allocator(), bytes.bytes()) {
         Ok(lines) => add_listed(run, &lines),
         Err(refusal) => Err(refusal.why),
@@ -288,23 +314,28 @@ fn add_files<F: Files>(
 // Adds the files of lines, as ones that were taken over.
 fn add_listed(run: &mut Run, lines: &Seq<Line>) -> Result<(), Bad> {
     for line in lines.items() {
-        match line.text.bytes() {
-            [b'|', text @ ..] => add_listed_body(run, text)?,
-            [b'f', b'i', b'l', b'e', b' ', name @ ..] => {
-                add_listed_file(run, line.number, name)?;
-            }
-            _ => return Err(Bad::Unknown),
-        }
+        add_listed_line(run, line)?;
     }
     Ok(())
 }
 
+fn add_listed_line(run: &mut Run, line: &Line) -> Result<(), Bad> {
+    let text = line.text.bytes();
+    if let Some(text) = text.strip_prefix(b"|".as_slice()) {
+        return add_listed_body(run, text);
+    }
+    match text.strip_prefix(b"file ".as_slice()) {
+        Some(name) => add_listed_file(run, line.number, name),
+        None => Err(Bad::Unknown),
+    }
+}
+
 // Such a file stands in the place of one that was taken over, and is taken over itself.
 fn add_listed_file(run: &mut Run, number: u32, name: &[u8]) -> Result<(), Bad> {
-    let name = text_of(*run.items.allocator(), name)?;
-    take_away(run, Word::File, Some(name.bytes()));
-    let mut item = Item::new(Word::File, number, name);
+    let mut item = Item::new(*run.items.allocator(), Word::File, number);
     item.taken = true;
+    add_text(&mut item.name, name)?;
+    take_away(run, Word::File, Some(item.name.bytes()));
     add_item(run, item)
 }
 

@@ -2,6 +2,7 @@
 
 use crate::Bad;
 use crate::number::{put_number, put_padded};
+use crate::text::{add_plain, first_word, parted};
 use mail_base::Text;
 
 /// What a line is given: the turn of the repeat that it stands in, and the arguments of the use.
@@ -34,38 +35,34 @@ fn add_part<'a>(text: &mut Text, line: &'a [u8], given: Given) -> Result<&'a [u8
             text.push(b'\\')?;
             Ok(&[])
         }
-        _ => add_plain(text, line),
+        _ => Ok(add_plain(text, line)?),
     }
-}
-
-fn add_plain<'a>(text: &mut Text, line: &'a [u8]) -> Result<&'a [u8], Bad> {
-    let length = match line.iter().position(|byte| *byte == b'\\') {
-        Some(at) => at,
-        None => line.len(),
-    };
-    text.extend(line.get(..length).ok_or(Bad::Escape)?)?;
-    line.get(length..).ok_or(Bad::Escape)
 }
 
 fn add_sign(text: &mut Text, sign: u8, given: Given) -> Result<(), Bad> {
     match sign {
-        b'#' => Ok(put_number(text, given.turn.ok_or(Bad::NoCount)?)?),
-        b'@' => Ok(put_padded(text, given.turn.ok_or(Bad::NoCount)?)?),
+        b'#' | b'@' => add_turn(text, sign, given.turn),
         b'1'..=b'9' => Ok(text.extend(argument(given, sign - b'0')?)?),
         _ => Ok(text.extend(&[b'\\', sign])?),
     }
 }
 
+fn add_turn(text: &mut Text, sign: u8, turn: Option<u64>) -> Result<(), Bad> {
+    let turn = turn.ok_or(Bad::NoCount)?;
+    if sign == b'#' {
+        put_number(text, turn)?;
+    } else {
+        put_padded(text, turn)?;
+    }
+    Ok(())
+}
+
 // The argument of a place, counted from 1.
 fn argument(given: Given<'_>, place: u8) -> Result<&[u8], Bad> {
-    let words = given.arguments.ok_or(Bad::NoArgument)?;
-    let mut rest = words;
+    let mut rest = given.arguments.ok_or(Bad::NoArgument)?;
     for _ in 1..place {
-        let (_first, behind) = crate::text::parted(rest, b' ').ok_or(Bad::NoArgument)?;
+        let (_first, behind) = parted(rest, b' ').ok_or(Bad::NoArgument)?;
         rest = behind;
     }
-    match crate::text::parted(rest, b' ') {
-        Some((first, _behind)) => Ok(first),
-        None => Ok(rest),
-    }
+    Ok(first_word(rest).0)
 }

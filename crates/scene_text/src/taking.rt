@@ -8,15 +8,27 @@ use std::alloc::Global;
 /// Adds an item to a run, in the place of those that it took over and that this one stands for.
 pub(crate) fn add_item(run: &mut Run, item: Item) -> Result<(), Bad> {
     if !item.taken {
-        let word = item.word;
         let name = item.name.bytes();
-        if run.items.iter().any(|other| is_second(other, word, name)) {
+        if has_second(run, item.word, name) {
             return Err(Bad::Twice);
         }
-        run.items.retain(|other| !is_replaced(other, word, name));
+        take_away(run, item.word, Some(name));
     }
-    run.items.push(item).map_err(NoMemory::from)?;
+    Ok(push(run, item)?)
+}
+
+fn push(run: &mut Run, item: Item) -> Result<(), NoMemory> {
+    run.items.push(item)?;
     Ok(())
+}
+
+fn has_second(run: &Run, word: Word, name: &[u8]) -> bool {
+    for item in run.items.as_slice() {
+        if is_second(item, word, name) {
+            return true;
+        }
+    }
+    false
 }
 
 // Whether an item was said before by the same run, though it may be said once only.
@@ -31,14 +43,19 @@ fn is_second(item: &Item, word: Word, name: &[u8]) -> bool {
     }
 }
 
-// Whether an item that was taken over gives way to one of that word and name.
-fn is_replaced(item: &Item, word: Word, name: &[u8]) -> bool {
+/// Takes away what was taken over and gives way to an item of that word, and of that name, if one
+/// is named.
+pub(crate) fn take_away(run: &mut Run, word: Word, name: Option<&[u8]>) {
+    run.items.retain(|other| !is_replaced(other, word, name));
+}
+
+fn is_replaced(item: &Item, word: Word, name: Option<&[u8]>) -> bool {
     if !item.taken {
         return false;
     }
     match word.kind() {
         Kind::Single => item.word == word,
-        Kind::Named => item.word == word && item.name.bytes() == name,
+        Kind::Named => item.word == word && is_named(item, name),
         Kind::Transcript => is_of_transcript(item.word.kind()),
         Kind::Replies => item.word.kind() == Kind::Replies,
         Kind::Wants => item.word.kind() == Kind::Wants,
@@ -49,11 +66,6 @@ fn is_of_transcript(kind: Kind) -> bool {
     kind == Kind::Transcript || kind == Kind::Replies
 }
 
-/// Takes away what was taken over of that word and name.
-pub(crate) fn take_away(run: &mut Run, word: Word, name: Option<&[u8]>) {
-    run.items.retain(|item| !(item.taken && item.word == word && is_named(item, name)));
-}
-
 fn is_named(item: &Item, name: Option<&[u8]>) -> bool {
     match name {
         Some(name) => item.name.bytes() == name,
@@ -61,49 +73,48 @@ fn is_named(item: &Item, name: Option<&[u8]>) -> bool {
     }
 }
 
-/// A run that takes all of the first run of the last scene of that name, or all but what is held.
-pub(crate) fn like(
-    alloc: Global,
-    scenes: &[Scene],
-    name: &[u8],
-    with_held: bool,
-) -> Result<Run, Bad> {
+/// What a run takes over of another one.
+#[derive(Clone, Copy)]
+pub(crate) enum Part {
+    All,
+    AllButHeld,
+    /// What a further run keeps.
+    Stays,
+}
+
+impl Part {
+    fn has(self, word: Word) -> bool {
+        match self {
+            Part::All => true,
+            Part::AllButHeld => word != Word::Held,
+            Part::Stays => word.stays(),
+        }
+    }
+}
+
+/// A run that takes over a part of another one.
+pub(crate) fn taken_over(alloc: Global, from: &Run, part: Part) -> Result<Run, NoMemory> {
     let mut run = Run {
         items: Vec::new(alloc),
     };
-    for item in items_of(scenes, name)? {
-        if with_held || item.word != Word::Held {
+    for item in from.items.as_slice() {
+        if part.has(item.word) {
             add_copy(&mut run, item)?;
         }
     }
     Ok(run)
-}
-
-fn items_of<'a>(scenes: &'a [Scene], name: &[u8]) -> Result<&'a [Item], Bad> {
-    for scene in scenes.iter().rev() {
-        if scene.name.bytes() == name {
-            let run = scene.runs.first().ok_or(Bad::NoLike)?;
-            return Ok(run.items.as_slice());
-        }
-    }
-    Err(Bad::NoLike)
 }
 
 fn add_copy(run: &mut Run, item: &Item) -> Result<(), NoMemory> {
-    let copied = item.taken_over()?;
-    run.items.push(copied)?;
-    Ok(())
+    push(run, item.taken_over()?)
 }
 
-/// A run that keeps what a further one keeps of the run before.
-pub(crate) fn behind(alloc: Global, before: &Run) -> Result<Run, Bad> {
-    let mut run = Run {
-        items: Vec::new(alloc),
-    };
-    for item in before.items.as_slice() {
-        if item.word.stays() {
-            add_copy(&mut run, item)?;
+/// The scene of that name.
+pub(crate) fn scene_named<'a>(scenes: &'a [Scene], name: &[u8]) -> Option<&'a Scene> {
+    for scene in scenes {
+        if scene.name.bytes() == name {
+            return Some(scene);
         }
     }
-    Ok(run)
+    None
 }

@@ -1,16 +1,22 @@
 //! The signs that stand for other bytes.
 
 use crate::Bad;
-use crate::number::number_of;
+use crate::number::given_number;
+use bstr::ByteSlice;
 use mail_base::{NoMemory, Text};
+use std::slice;
 
 /// The most bytes of a text.
 const MOST_TEXT: usize = 67_108_864;
 
 /// What stands in front of the first such sign, and behind it.
 pub fn parted(bytes: &[u8], sign: u8) -> Option<(&[u8], &[u8])> {
-    let at = bytes.iter().position(|byte| *byte == sign)?;
-    Some((bytes.get(..at)?, bytes.get(at.saturating_add(1)..)?))
+    bytes.split_once_str(&[sign])
+}
+
+/// The first word, and what stands behind the blank that ends it.
+pub(crate) fn first_word(words: &[u8]) -> (&[u8], &[u8]) {
+    parted(words, b' ').unwrap_or((words, &[]))
 }
 
 /// Adds a word of a program that is started, with a blank in front of it unless it is the first.
@@ -21,11 +27,12 @@ pub fn put_word(text: &mut Text, word: &[u8]) -> Result<(), NoMemory> {
         text.push(b' ')?;
     }
     for byte in word {
-        match *byte {
-            b' ' => text.extend(b"\\x20")?,
-            b'\\' => text.extend(b"\\\\")?,
-            other => text.push(other)?,
-        }
+        let written = match *byte {
+            b' ' => b"\\x20".as_slice(),
+            b'\\' => b"\\\\".as_slice(),
+            _ => slice::from_ref(byte),
+        };
+        text.extend(written)?;
     }
     Ok(())
 }
@@ -60,36 +67,35 @@ fn add_simple(text: &mut Text, written: &[u8]) -> Result<(), Bad> {
 // Adds the bytes up to the next backslash, or one sign, and gives what stands behind.
 fn add_part<'a>(text: &mut Text, written: &'a [u8]) -> Result<&'a [u8], Bad> {
     match written {
-        [b'\\', b'e', behind @ ..] => Ok(behind),
         [b'\\', b'x', high, low, behind @ ..] => {
             text.push(byte_of(*high, *low)?)?;
             Ok(behind)
         }
         [b'\\', sign, behind @ ..] => {
-            text.push(meant_by(*sign)?)?;
+            text.extend(meant_by(*sign)?)?;
             Ok(behind)
         }
         [b'\\'] => Err(Bad::Escape),
-        _ => add_plain(text, written),
+        _ => Ok(add_plain(text, written)?),
     }
 }
 
-fn add_plain<'a>(text: &mut Text, written: &'a [u8]) -> Result<&'a [u8], Bad> {
-    let length = match written.iter().position(|byte| *byte == b'\\') {
-        Some(at) => at,
-        None => written.len(),
-    };
-    text.extend(written.get(..length).ok_or(Bad::Escape)?)?;
-    written.get(length..).ok_or(Bad::Escape)
+/// Adds the bytes up to the next backslash, and gives what stands behind.
+pub(crate) fn add_plain<'a>(text: &mut Text, written: &'a [u8]) -> Result<&'a [u8], NoMemory> {
+    let length = written.find_byte(b'\\').unwrap_or(written.len());
+    let (front, behind) = written.split_at(length);
+    text.extend(front)?;
+    Ok(behind)
 }
 
-fn meant_by(sign: u8) -> Result<u8, Bad> {
+fn meant_by(sign: u8) -> Result<&'static [u8], Bad> {
     match sign {
-        b't' => Ok(b'\t'),
-        b'r' => Ok(b'\r'),
-        b'n' => Ok(b'\n'),
-        b'0' => Ok(0),
-        b'\\' => Ok(b'\\'),
+        b'e' => Ok(b""),
+        b't' => Ok(b"\t"),
+        b'r' => Ok(b"\r"),
+        b'n' => Ok(b"\n"),
+        b'0' => Ok(b"\0"),
+        b'\\' => Ok(b"\\"),
         _ => Err(Bad::Escape),
     }
 }
@@ -115,7 +121,7 @@ fn digit_of(sign: u8) -> Result<u8, Bad>
 fn add_repeated<'a>(text: &mut Text, written: &'a [u8]) -> Result<&'a [u8], Bad> {
     let (inside, behind) = parted(written, b'}').ok_or(Bad::Escape)?;
     let (times, once) = parted(inside, b'*').ok_or(Bad::Escape)?;
-    let times = number_of(times).ok_or(Bad::Number)?;
+    let times = given_number(times)?;
     let mut part = Text::new(text.allocator());
     add_simple(&mut part, once)?;
     add_often(text, part.bytes(), times)?;

@@ -130,20 +130,26 @@ pub enum Device {
     Peers,
 }
 
+static DEVICES: [Device; 8] = [
+    Device::Files,
+    Device::Spool,
+    Device::Turns,
+    Device::Sends,
+    Device::Reads,
+    Device::Writes,
+    Device::Children,
+    Device::Peers,
+];
+
 impl Device {
     /// The device of that name.
     pub fn of(name: &[u8]) -> Option<Device> {
-        match name {
-            b"files" => Some(Device::Files),
-            b"spool" => Some(Device::Spool),
-            b"turns" => Some(Device::Turns),
-            b"sends" => Some(Device::Sends),
-            b"reads" => Some(Device::Reads),
-            b"writes" => Some(Device::Writes),
-            b"children" => Some(Device::Children),
-            b"peers" => Some(Device::Peers),
-            _ => None,
+        for device in DEVICES.iter() {
+            if device.name().as_bytes() == name {
+                return Some(*device);
+            }
         }
+        None
     }
 
     pub fn name(self) -> &'static str {
