@@ -1,4 +1,4 @@
-use crate::receive::fill;
+use crate::texts::{add, add_number, add_often};
 use mail_base::{Command, LineFault, NoMemory, Text, Verb};
 use smtp_lines::command;
 use std::alloc::Global;
@@ -6,8 +6,8 @@ use std::alloc::Global;
 /// A line, and how it is read, as `shown` writes it.
 type Row = (&'static [u8], &'static [u8]);
 
-/// Each verb in any case, with an argument and without one.
-static VERBS: [Row; 44] = [
+static LINES: [Row; 80] = [
+    // Each verb in any case, with an argument and without one.
     (b"HELO", b"!ArgumentNeeded"),
     (b"helo ", b"!ArgumentNeeded"),
     (b"HELO c.example", b"HELO<c.example>"),
@@ -52,10 +52,7 @@ static VERBS: [Row; 44] = [
     (b"NOOP \x01", b"!BadByte"),
     (b"WHAT\x7f", b"!BadByte"),
     (b"NOOP\t\x80\xff", b"NOOP"),
-];
-
-/// Paths with quotes, routes and other bytes, and where their faults stand among others.
-static PATHS: [Row; 36] = [
+    // Paths with quotes, routes and other bytes, and where their faults stand among others.
     (b"MAIL FROM:<\"a>b\"@c>", b"MAIL<\"a>b\"@c>"),
     (b"MAIL FROM:<\"a\\\">\"@c>", b"MAIL<\"a\\\">\"@c>"),
     (b"MAIL FROM:<\"a>", b"!Syntax MAIL"),
@@ -131,15 +128,13 @@ fn show_verb(text: &mut Text, fault: &[u8], verb: Verb) -> Result<(), NoMemory> 
 }
 
 fn show_text(text: &mut Text, name: &[u8], argument: &[u8]) -> Result<(), NoMemory> {
-    text.extend(name)?;
-    text.extend(argument)?;
-    text.extend(b">")
+    add(text, &[name, argument, b">"])
 }
 
 fn show_given(text: &mut Text, size: Option<u128>, eight: bool) -> Result<(), NoMemory> {
     if let Some(size) = size {
-        let number = format!(in text.allocator(); " size {size}")?;
-        text.extend(number.as_bytes())?;
+        text.extend(b" size ")?;
+        add_number(text, size)?;
     }
     if eight {
         text.extend(b" eight")?;
@@ -179,34 +174,12 @@ fn reads_so(alloc: Global, row: &Row) -> Result<bool, NoMemory> {
     Ok(text.bytes() == row.1)
 }
 
-fn wrong(alloc: Global, rows: &[Row]) -> Result<Option<usize>, NoMemory> {
-    for (place, row) in rows.iter().enumerate() {
-        if !reads_so(alloc, row)? {
-            return Ok(Some(place));
-        }
+#[test]
+fn verbs_and_paths_are_read(rt: HostRuntime) -> Result<(), NoMemory> {
+    for (at, row) in LINES.iter().enumerate() {
+        assert!(rt; reads_so(rt.alloc(), row)?, "row {at}");
     }
-    Ok(None)
-}
-
-#[test]
-fn verbs_are_read(rt: HostRuntime) -> Result<(), NoMemory> {
-    assert_eq!(rt; wrong(rt.alloc(), &VERBS)?, None);
     Ok(())
-}
-
-#[test]
-fn paths_are_read(rt: HostRuntime) -> Result<(), NoMemory> {
-    assert_eq!(rt; wrong(rt.alloc(), &PATHS)?, None);
-    Ok(())
-}
-
-/// A line with a path of so many bytes before its `@` and behind it.
-fn add_path(line: &mut Text, local: usize, domain: usize) -> Result<(), NoMemory> {
-    line.extend(b"RCPT TO:<")?;
-    fill(line, b'x', local)?;
-    line.push(b'@')?;
-    fill(line, b'x', domain)?;
-    line.push(b'>')
 }
 
 /// The bytes of a local part and of a domain, and whether such a path is read.
@@ -219,9 +192,18 @@ static LENGTHS: [(usize, usize, bool); 6] = [
     (0, 253, true),
 ];
 
-fn is_long(alloc: Global, local: usize, domain: usize) -> Result<bool, NoMemory> {
+fn is_long(alloc: Global, row: &(usize, usize, bool)) -> Result<bool, NoMemory> {
     let mut line = Text::new(alloc);
-    add_path(&mut line, local, domain)?;
+    add_often(
+        &mut line,
+        &[
+            (b"RCPT TO:<", 1),
+            (b"x", row.0),
+            (b"@", 1),
+            (b"x", row.1),
+            (b">", 1),
+        ],
+    )?;
     Ok(matches!(
         &command(line.bytes()),
         Err(LineFault::PathTooLong(Verb::Rcpt))
@@ -231,7 +213,7 @@ fn is_long(alloc: Global, local: usize, domain: usize) -> Result<bool, NoMemory>
 #[test]
 fn long_paths_are_refused(rt: HostRuntime) -> Result<(), NoMemory> {
     for (at, row) in LENGTHS.iter().enumerate() {
-        assert!(rt; is_long(rt.alloc(), row.0, row.1)? != row.2, "row {at}");
+        assert!(rt; is_long(rt.alloc(), row)? != row.2, "row {at}");
     }
     Ok(())
 }

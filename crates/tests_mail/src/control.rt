@@ -1,6 +1,6 @@
 ghost use Rattle.qf_format.specs.Valid.{IsValid};
 
-use crate::receive::fill;
+use crate::texts::add_often;
 use mail_base::{Control, NoMemory, Text};
 use qf_format::{Paper, parse, print, print_into, room};
 use std::alloc::Global;
@@ -30,7 +30,8 @@ static LINES: [&[u8]; 17] = [
 // The number of a line, what stands in its place, and whether the text is one still.
 type Edit = (usize, &'static [u8], bool);
 
-static EDITS: [Edit; 48] = [
+static EDITS: [Edit; 49] = [
+    (0, b"V1", true),
     (1, b"v18446744073709551615", true),
     (1, b"v1\npw000000000007 3", true),
     (2, b"g", true),
@@ -81,7 +82,7 @@ static EDITS: [Edit; 48] = [
     (16, b".\n.", false),
 ];
 
-fn add(text: &mut Text, lines: &[&[u8]]) -> Result<(), NoMemory> {
+fn add_lines(text: &mut Text, lines: &[&[u8]]) -> Result<(), NoMemory> {
     for line in lines {
         text.extend(line)?;
         text.push(b'\n')?;
@@ -89,58 +90,24 @@ fn add(text: &mut Text, lines: &[&[u8]]) -> Result<(), NoMemory> {
     Ok(())
 }
 
-// The text of the lines up to one place and from another one on, with others between.
-fn spliced(alloc: Global, to: usize, from: usize, other: &[&[u8]]) -> Result<Text, NoMemory> {
-    let mut text = Text::new(alloc);
-    add(&mut text, LINES.get(..to).unwrap_or(&LINES))?;
-    add(&mut text, other)?;
-    if let Some(rest) = LINES.get(from..) {
-        add(&mut text, rest)?;
-    }
-    Ok(text)
-}
-
-// Whether the text is read, and printed again as it was.
-fn comes_back(text: &Text) -> Result<bool, NoMemory> {
-    match parse(text)? {
-        None => Ok(false),
-        Some(control) => is_print(&control, text),
+// Adds the lines up to one place and from another one on, with others between.
+fn splice(text: &mut Text, to: usize, from: usize, other: &[&[u8]]) -> Result<(), NoMemory> {
+    add_lines(text, LINES.get(..to).unwrap_or(&LINES))?;
+    add_lines(text, other)?;
+    match LINES.get(from..) {
+        Some(rest) => add_lines(text, rest),
+        None => Ok(()),
     }
 }
 
+// Whether the text is what is printed of the control, also on paper of its room, which it fits.
 fn is_print(control: &Control, text: &Text) -> Result<bool, NoMemory>
     requires { IsValid control.now }
 {
-    Ok(print(control)?.bytes() == text.bytes())
+    Ok(print(control)?.bytes() == text.bytes() && on_paper(control)? == text.len())
 }
 
-// Whether the text comes back with a line, or several, in the place of one.
-fn takes(alloc: Global, place: usize, line: &[u8]) -> Result<bool, NoMemory> {
-    comes_back(&spliced(alloc, place, place.saturating_add(1), &[line])?)
-}
-
-// Whether the text comes back without one of its lines.
-fn lacks(alloc: Global, place: usize) -> Result<bool, NoMemory> {
-    comes_back(&spliced(alloc, place, place.saturating_add(1), &[])?)
-}
-
-// Whether the text comes back with a line behind the next one, if there is one.
-fn swaps(alloc: Global, place: usize) -> Result<bool, NoMemory> {
-    let from = place.saturating_add(2);
-    match LINES.get(place..from) {
-        Some([this, next]) => comes_back(&spliced(alloc, place, from, &[next, this])?),
-        _ => comes_back(&spliced(alloc, 17, 17, &[])?),
-    }
-}
-
-// The length of what is written of a text's control on paper of its room, which it fits.
-fn written(text: &Text) -> Result<usize, NoMemory> {
-    match parse(text)? {
-        None => Ok(0),
-        Some(control) => on_paper(&control),
-    }
-}
-
+// The length of what is written on paper of the control's room.
 fn on_paper(control: &Control) -> Result<usize, NoMemory>
     requires { IsValid control.now }
 {
@@ -153,9 +120,42 @@ fn on_paper(control: &Control) -> Result<usize, NoMemory>
     Ok(paper.bytes().len())
 }
 
+fn is_read(text: &Text) -> Result<bool, NoMemory> {
+    match parse(text)? {
+        None => Ok(false),
+        Some(control) => is_print(&control, text),
+    }
+}
+
+// Whether the text is read, and printed again as it was, with others in place of these lines.
+fn comes_back(alloc: Global, to: usize, from: usize, other: &[&[u8]]) -> Result<bool, NoMemory> {
+    let mut text = Text::new(alloc);
+    splice(&mut text, to, from, other)?;
+    is_read(&text)
+}
+
+// Whether the text comes back with a line, or several, in the place of one.
+fn takes(alloc: Global, place: usize, line: &[u8]) -> Result<bool, NoMemory> {
+    comes_back(alloc, place, place.saturating_add(1), &[line])
+}
+
+// Whether the text comes back without one of its lines.
+fn lacks(alloc: Global, place: usize) -> Result<bool, NoMemory> {
+    comes_back(alloc, place, place.saturating_add(1), &[])
+}
+
+// Whether the text comes back with a line behind the next one, if there is one.
+fn swaps(alloc: Global, place: usize) -> Result<bool, NoMemory> {
+    let from = place.saturating_add(2);
+    match LINES.get(place..from) {
+        Some([this, next]) => comes_back(alloc, place, from, &[next, this]),
+        _ => comes_back(alloc, 17, 17, &[]),
+    }
+}
+
 fn takes_note(alloc: Global, length: usize) -> Result<bool, NoMemory> {
-    let mut line = Text::of(alloc, b"eQ ")?;
-    fill(&mut line, b'x', length)?;
+    let mut line = Text::new(alloc);
+    add_often(&mut line, &[(b"eQ ", 1), (b"x", length)])?;
     takes(alloc, 13, line.bytes())
 }
 
@@ -170,27 +170,22 @@ fn takes_bytes(alloc: Global) -> Result<bool, NoMemory> {
     takes(alloc, 12, line.bytes())
 }
 
-fn is_written_whole(alloc: Global) -> Result<bool, NoMemory> {
-    let text = spliced(alloc, 17, 17, &[])?;
-    Ok(comes_back(&text)? && written(&text)? == text.len())
-}
-
 // How long a note is, and whether it is taken.
-const NOTES: &[(usize, bool)] = &[(1, true), (512, true), (0, false), (513, false)];
+static NOTES: [(usize, bool); 4] = [(1, true), (512, true), (0, false), (513, false)];
 
 #[test]
-fn the_example_comes_back(rt: HostRuntime) -> Result<(), NoMemory> {
-    assert!(rt; is_written_whole(rt.alloc())? && takes_bytes(rt.alloc())?);
-    for (length, is_taken) in NOTES {
-        assert!(rt; takes_note(rt.alloc(), *length)? == *is_taken, "{length}");
+fn addresses_have_any_bytes_and_notes_512(rt: HostRuntime) -> Result<(), NoMemory> {
+    assert!(rt; takes_bytes(rt.alloc())?);
+    for row in &NOTES {
+        assert!(rt; takes_note(rt.alloc(), row.0)? == row.1, "{}", row.0);
     }
     Ok(())
 }
 
 #[test]
 fn fields_have_their_ranges(rt: HostRuntime) -> Result<(), NoMemory> {
-    for (at, (place, line, is_taken)) in EDITS.iter().enumerate() {
-        assert!(rt; takes(rt.alloc(), *place, line)? == *is_taken, "row {at}");
+    for (at, row) in EDITS.iter().enumerate() {
+        assert!(rt; takes(rt.alloc(), row.0, row.1)? == row.2, "row {at}");
     }
     Ok(())
 }

@@ -1,7 +1,8 @@
 ghost use Rattle.std.specs.Prelude.{◌≤◌};
 ghost use Rattle.mail_base.specs.Limits.{most_message};
 
-use mail_base::{Config, Macros, NoMemory, Precedence, Seq, Split, Text};
+use crate::texts::{add, add_number};
+use mail_base::{Config, NoMemory, Precedence, Seq, Split, Text};
 use mail_header::{Gathering, class_of, date_of, hops, split};
 use std::alloc::Global;
 
@@ -40,22 +41,13 @@ static ROWS: [Row; 24] = [
 
 fn show(text: &mut Text, split: &Split) -> Result<(), NoMemory> {
     for header in split.headers.items() {
-        text.push(b'<')?;
-        text.extend(header.bytes())?;
-        text.push(b'>')?;
+        add(text, &[b"<", header.bytes(), b">"])?;
     }
-    text.push(b'{')?;
-    text.extend(split.body.bytes())?;
-    text.push(b'}')?;
-    show_block(text, split.block)
-}
-
-fn show_block(text: &mut Text, block: u64) -> Result<(), NoMemory> {
-    if block == 0 {
+    add(text, &[b"{", split.body.bytes(), b"}"])?;
+    if split.block == 0 {
         return Ok(());
     }
-    let number = format!(in text.allocator(); "{block}")?;
-    text.extend(number.as_bytes())
+    add_number(text, split.block.into())
 }
 
 fn splits_so(alloc: Global, row: &Row) -> Result<bool, NoMemory> {
@@ -64,14 +56,6 @@ fn splits_so(alloc: Global, row: &Row) -> Result<bool, NoMemory> {
     let mut text = Text::new(alloc);
     show(&mut text, &split)?;
     Ok(text.bytes() == row.1)
-}
-
-#[test]
-fn texts_are_split(rt: HostRuntime) -> Result<(), NoMemory> {
-    for (at, row) in ROWS.iter().enumerate() {
-        assert!(rt; splits_so(rt.alloc(), row)?, "row {at}");
-    }
-    Ok(())
 }
 
 /// The lines of a text, gathered; a last one without its end isn't taken.
@@ -97,52 +81,93 @@ fn gathers_so(alloc: Global, row: &Row) -> Result<bool, NoMemory> {
     Ok(text.bytes() == row.1)
 }
 
-// The texts of which each line has an end.
 #[test]
-fn lines_are_gathered(rt: HostRuntime) -> Result<(), NoMemory> {
-    for (at, row) in ROWS.iter().enumerate().take(21) {
-        assert!(rt; gathers_so(rt.alloc(), row)?, "row {at}");
+fn texts_are_split_and_lines_gathered(rt: HostRuntime) -> Result<(), NoMemory> {
+    for (at, row) in ROWS.iter().enumerate() {
+        assert!(rt; splits_so(rt.alloc(), row)?, "row {at}");
+        // Of the last three texts the last line has no end.
+        assert!(rt;
+            at > 20 || gathers_so(rt.alloc(), row)?,
+            "row {at} by lines"
+        );
     }
     Ok(())
+}
+
+// Whether of a text of 12 bytes so many headers and bytes of its body are kept.
+fn is_kept(alloc: Global, most: u64, headers: usize, body: usize) -> Result<bool, NoMemory>
+    requires { most ≤ most_message }
+{
+    let gathering = gather(alloc, b"a: b\r\n\r\nhi\r\n", most)?;
+    let is_counted = gathering.size() == 12 && !gathering.is_large_block();
+    let split = gathering.into_split();
+    Ok(is_counted && split.headers.len() == headers && split.body.len() == body)
 }
 
 #[test]
 #[tactic(auto, unfolding(mail_base::specs::Limits::most_message))]
 fn limits_are_kept(rt: HostRuntime) -> Result<(), NoMemory> {
-    let whole = gather(rt.alloc(), b"a: b\r\n\r\nhi\r\n", 12)?;
-    let above = gather(rt.alloc(), b"a: b\r\n\r\nhi\r\n", 11)?;
-    assert_eq!(rt; whole.size(), 12);
-    assert_eq!(rt; above.size(), 12);
-    assert!(rt; !whole.is_large_block());
-    assert_eq!(rt; whole.into_split().body.len(), 4);
-    assert_eq!(rt; above.into_split().headers.len(), 0);
+    assert!(rt; is_kept(rt.alloc(), 12, 1, 4)?);
+    assert!(rt; is_kept(rt.alloc(), 11, 0, 0)?);
     Ok(())
 }
 
-fn headers_of(alloc: Global, text: &[u8]) -> Result<Seq<Text>, NoMemory> {
-    let message = Text::of(alloc, text)?;
-    Ok(split(&message)?.headers)
+/// What is told of headers: how many are `Received`, the class of their message, and its date,
+/// where it was created at the beginning of 2026.
+enum Told {
+    Hops(u32),
+    Class(i64),
+    Date(&'static [u8]),
 }
 
-/// A header block, and how many headers are `Received`.
-static HOPS: [(&[u8], u32); 5] = [
-    (b"", 0),
-    (b"Received: a\r\nreceived:b\r\nRECEIVED: c\r\n", 3),
-    (b"Received-SPF: a\r\nX-Received: b\r\nReceive: c\r\n", 0),
-    (b"Subject: Received: a\r\n Received: b\r\n", 0),
-    (b"Received: a\r\n\tb\r\n\r\nReceived: c\r\n", 1),
+static TOLD: [(&[u8], Told); 20] = [
+    (b"", Told::Hops(0)),
+    (
+        b"Received: a\r\nreceived:b\r\nRECEIVED: c\r\n",
+        Told::Hops(3),
+    ),
+    (
+        b"Received-SPF: a\r\nX-Received: b\r\nReceive: c\r\n",
+        Told::Hops(0),
+    ),
+    (b"Subject: Received: a\r\n Received: b\r\n", Told::Hops(0)),
+    (b"Received: a\r\n\tb\r\n\r\nReceived: c\r\n", Told::Hops(1)),
+    (b"", Told::Class(0)),
+    (b"Precedence: junk\r\n", Told::Class(-100)),
+    (b"precedence:\t JuNK \r\n", Told::Class(-100)),
+    (b"Precedence:\r\n junk\r\n", Told::Class(-100)),
+    (b"Precedence: junk\r\n \r\n", Told::Class(-100)),
+    (
+        b"Precedence: bulk\r\nPrecedence: special\r\n",
+        Told::Class(100),
+    ),
+    (
+        b"Precedence: special\r\nPrecedence: junk\r\n",
+        Told::Class(100),
+    ),
+    (b"Precedence: junk mail\r\n", Told::Class(0)),
+    (b"X-Precedence: junk\r\n", Told::Class(0)),
+    (b"", Told::Date(b"Thu, 1 Jan 2026 00:00:00 +0000")),
+    (
+        b"Date:  Fri, 2 Jan 2026 \r\n",
+        Told::Date(b"Fri, 2 Jan 2026"),
+    ),
+    (b"date: a\r\n b\r\nDate: c\r\n", Told::Date(b"a")),
+    (
+        b"Date: \t\r\nDate: c\r\n",
+        Told::Date(b"Thu, 1 Jan 2026 00:00:00 +0000"),
+    ),
+    (
+        b"Date:\r\n later\r\n",
+        Told::Date(b"Thu, 1 Jan 2026 00:00:00 +0000"),
+    ),
+    (
+        b"X-Date: a\r\n",
+        Told::Date(b"Thu, 1 Jan 2026 00:00:00 +0000"),
+    ),
 ];
 
-#[test]
-fn hops_are_counted(rt: HostRuntime) -> Result<(), NoMemory> {
-    for (at, row) in HOPS.iter().enumerate() {
-        let headers = headers_of(rt.alloc(), row.0)?;
-        assert!(rt; headers.len() <= 100 && hops(&headers) == row.1, "row {at}");
-    }
-    Ok(())
-}
-
-fn add_class(config: &mut Config, name: &[u8], class: i64) -> Result<(), NoMemory> {
+pub(crate) fn add_class(config: &mut Config, name: &[u8], class: i64) -> Result<(), NoMemory> {
     let name = Text::of(config.precedences.allocator(), name)?;
     config.precedences.push(Precedence { name, class })
 }
@@ -156,47 +181,28 @@ fn classes(alloc: Global) -> Result<Config, NoMemory> {
     Ok(config)
 }
 
-/// A header block, and the class of its message.
-static CLASSES: [(&[u8], i64); 9] = [
-    (b"", 0),
-    (b"Precedence: junk\r\n", -100),
-    (b"precedence:\t JuNK \r\n", -100),
-    (b"Precedence:\r\n junk\r\n", -100),
-    (b"Precedence: junk\r\n \r\n", -100),
-    (b"Precedence: bulk\r\nPrecedence: special\r\n", 100),
-    (b"Precedence: special\r\nPrecedence: junk\r\n", 100),
-    (b"Precedence: junk mail\r\n", 0),
-    (b"X-Precedence: junk\r\n", 0),
-];
-
-#[test]
-fn classes_are_told(rt: HostRuntime) -> Result<(), NoMemory> {
-    let config = classes(rt.alloc())?;
-    for (at, row) in CLASSES.iter().enumerate() {
-        let headers = headers_of(rt.alloc(), row.0)?;
-        assert_eq!(rt; class_of(&config, &headers), row.1, "row {at}");
-    }
-    Ok(())
+fn is_date(headers: &Seq<Text>, wanted: &[u8]) -> Result<bool, NoMemory> {
+    Ok(date_of(headers, 1_767_225_600)?.bytes() == wanted)
 }
 
-/// A header block, and the date of its message, which was created at the beginning of 2026.
-static DATES: [Row; 6] = [
-    (b"", b"Thu, 1 Jan 2026 00:00:00 +0000"),
-    (b"Date:  Fri, 2 Jan 2026 \r\n", b"Fri, 2 Jan 2026"),
-    (b"date: a\r\n b\r\nDate: c\r\n", b"a"),
-    (
-        b"Date: \t\r\nDate: c\r\n",
-        b"Thu, 1 Jan 2026 00:00:00 +0000",
-    ),
-    (b"Date:\r\n later\r\n", b"Thu, 1 Jan 2026 00:00:00 +0000"),
-    (b"X-Date: a\r\n", b"Thu, 1 Jan 2026 00:00:00 +0000"),
-];
+fn are_so(config: &Config, headers: &Seq<Text>, told: &Told) -> Result<bool, NoMemory> {
+    match told {
+        Told::Hops(count) => Ok(headers.len() <= 100 && hops(headers) == *count),
+        Told::Class(class) => Ok(class_of(config, headers) == *class),
+        Told::Date(date) => is_date(headers, date),
+    }
+}
+
+fn is_told(config: &Config, row: &(&[u8], Told)) -> Result<bool, NoMemory> {
+    let text = Text::of(config.headers.allocator(), row.0)?;
+    are_so(config, &split(&text)?.headers, &row.1)
+}
 
 #[test]
-fn dates_are_told(rt: HostRuntime) -> Result<(), NoMemory> {
-    for (at, row) in DATES.iter().enumerate() {
-        let date = date_of(&headers_of(rt.alloc(), row.0)?, 1_767_225_600)?;
-        assert_eq!(rt; date.bytes(), row.1, "row {at}");
+fn hops_classes_and_dates_are_told(rt: HostRuntime) -> Result<(), NoMemory> {
+    let config = classes(rt.alloc())?;
+    for (at, row) in TOLD.iter().enumerate() {
+        assert!(rt; is_told(&config, row)?, "row {at}");
     }
     Ok(())
 }

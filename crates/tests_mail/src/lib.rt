@@ -24,3 +24,5 @@ mod replies;
 mod submitted;
 #[cfg(test)]
 mod talk;
+#[cfg(test)]
+mod texts;

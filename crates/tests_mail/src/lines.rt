@@ -1,4 +1,4 @@
-use crate::receive::fill;
+use crate::texts::{add, add_often};
 use mail_base::{NoMemory, Seq, Text};
 use smtp_lines::{Line, Lines, last_asks, read_stream};
 use std::alloc::Global;
@@ -12,10 +12,10 @@ enum Cuts {
     Random(u64),
 }
 
-/// A stream, its grants, and its lines as `shown` writes them.
-type Row = (&'static [u8], &'static [bool], &'static [u8]);
+/// A stream, its grants, and its lines as `show_lines` writes them.
+type Row<'a> = (&'a [u8], &'a [bool], &'a [u8]);
 
-static ROWS: [Row; 22] = [
+static ROWS: [Row<'static>; 22] = [
     (b"", &[], b""),
     (b"\r\n\nNOOP\n", &[], b"C<>C<>C<NOOP>"),
     (b"NOOP\r\r\n\r\r\n", &[], b"C<NOOP\r>C<\r>"),
@@ -94,36 +94,32 @@ fn pieces_of(alloc: Global, bytes: &[u8], cuts: Cuts) -> Result<Vec<Text>, NoMem
     Ok(pieces)
 }
 
-fn shown(alloc: Global, lines: &Seq<Line>) -> Result<Text, NoMemory> {
-    let mut text = Text::new(alloc);
+fn show_lines(text: &mut Text, lines: &Seq<Line>) -> Result<(), NoMemory> {
     for line in lines.items() {
-        show_line(&mut text, line)?;
+        show_line(text, line)?;
     }
-    Ok(text)
+    Ok(())
 }
 
 fn show_line(text: &mut Text, line: &Line) -> Result<(), NoMemory> {
     match line {
-        Line::Command(command) => show(text, b"C<", command),
+        Line::Command(command) => add(text, &[b"C<", command.bytes(), b">"]),
         Line::TooLong => text.extend(b"T"),
-        Line::Data(data) => show(text, b"D<", data),
+        Line::Data(data) => add(text, &[b"D<", data.bytes(), b">"]),
         Line::DataEnd => text.extend(b"E"),
     }
 }
 
-fn show(text: &mut Text, tag: &[u8], bytes: &Text) -> Result<(), NoMemory> {
-    text.extend(tag)?;
-    text.extend(bytes.bytes())?;
-    text.extend(b">")
-}
-
-fn read_cut(alloc: Global, bytes: &[u8], grants: &[bool], cuts: Cuts) -> Result<Text, NoMemory> {
+fn show_cut(text: &mut Text, bytes: &[u8], grants: &[bool], cuts: Cuts) -> Result<(), NoMemory> {
+    let alloc = text.allocator();
     let pieces = pieces_of(alloc, bytes, cuts)?;
-    shown(alloc, &read_stream(alloc, &pieces, grants)?)
+    show_lines(text, &read_stream(alloc, &pieces, grants)?)
 }
 
-fn reads_so(alloc: Global, row: &Row, cuts: Cuts) -> Result<bool, NoMemory> {
-    Ok(read_cut(alloc, row.0, row.1, cuts)?.bytes() == row.2)
+fn reads_so(alloc: Global, row: &Row<'_>, cuts: Cuts) -> Result<bool, NoMemory> {
+    let mut text = Text::new(alloc);
+    show_cut(&mut text, row.0, row.1, cuts)?;
+    Ok(text.bytes() == row.2)
 }
 
 static CUTS: [Cuts; 4] = [
@@ -133,19 +129,23 @@ static CUTS: [Cuts; 4] = [
     Cuts::Random(2),
 ];
 
-// Whether the lines are the same however their stream is cut.
-fn reads_cut_so(alloc: Global, row: &Row) -> Result<bool, NoMemory> {
-    for cuts in &CUTS {
+fn reads_so_at_each(alloc: Global, row: &Row<'_>, each: &[Cuts]) -> Result<bool, NoMemory> {
+    for cuts in each {
         if !reads_so(alloc, row, *cuts)? {
             return Ok(false);
         }
     }
+    Ok(true)
+}
+
+// Whether the lines are the same however their stream is cut.
+fn reads_cut_so(alloc: Global, row: &Row<'_>) -> Result<bool, NoMemory> {
     for place in 0..row.0.len() {
         if !reads_so(alloc, row, Cuts::At(place))? {
             return Ok(false);
         }
     }
-    Ok(true)
+    reads_so_at_each(alloc, row, &CUTS)
 }
 
 #[test]
@@ -156,46 +156,17 @@ fn lines_of_a_stream_however_it_is_cut(rt: HostRuntime) -> Result<(), NoMemory> 
     Ok(())
 }
 
-/// So many bytes, an end, and another command.
-fn long_command(alloc: Global, length: usize, end: &[u8]) -> Result<Text, NoMemory> {
-    let mut text = Text::new(alloc);
-    fill(&mut text, b'x', length)?;
-    text.extend(end)?;
-    text.extend(b"NOOP\n")?;
-    Ok(text)
-}
-
-// Whether the lines are two, and the first a command of so many bytes or none.
-fn is_first(lines: &[Line], wanted: Option<usize>) -> bool {
-    match lines {
-        [Line::Command(text), _] => wanted == Some(text.len()),
-        [_, _] => wanted.is_none(),
-        _ => false,
-    }
-}
-
-fn has_first(
-    alloc: Global,
-    stream: &Text,
-    cuts: Cuts,
-    wanted: Option<usize>,
-) -> Result<bool, NoMemory> {
-    let pieces = pieces_of(alloc, stream.bytes(), cuts)?;
-    Ok(is_first(read_stream(alloc, &pieces, &[])?.items(), wanted))
-}
-
-/// The bytes of a command before its end, its end, and how many are read of it, where it isn't too
-/// long.
-type Command = (usize, &'static [u8], Option<usize>);
+/// The bytes of a command before its end, its end, and whether the command is read.
+type Command = (usize, &'static [u8], bool);
 
 static LONG_COMMANDS: [Command; 7] = [
-    (2_046, b"\r\n", Some(2_046)),
-    (2_047, b"\r\n", None),
-    (2_048, b"\r\n", None),
-    (2_047, b"\n", Some(2_047)),
-    (2_048, b"\n", None),
-    (5_000, b"\n", None),
-    (5_000, b"\r\n", None),
+    (2_046, b"\r\n", true),
+    (2_047, b"\r\n", false),
+    (2_048, b"\r\n", false),
+    (2_047, b"\n", true),
+    (2_048, b"\n", false),
+    (5_000, b"\n", false),
+    (5_000, b"\r\n", false),
 ];
 
 static LONG_CUTS: [Cuts; 4] = [
@@ -205,14 +176,20 @@ static LONG_CUTS: [Cuts; 4] = [
     Cuts::At(2_048),
 ];
 
-fn is_cut_off(alloc: Global, row: &Command) -> Result<bool, NoMemory> {
-    let stream = long_command(alloc, row.0, row.1)?;
-    for cuts in &LONG_CUTS {
-        if !has_first(alloc, &stream, *cuts, row.2)? {
-            return Ok(false);
-        }
+fn add_shown(shown: &mut Text, row: &Command) -> Result<(), NoMemory> {
+    if row.2 {
+        return add_often(shown, &[(b"C<", 1), (b"x", row.0), (b">C<NOOP>", 1)]);
     }
-    Ok(true)
+    shown.extend(b"TC<NOOP>")
+}
+
+// Whether a command is read whole, or is too long, and another one behind it.
+fn is_cut_off(alloc: Global, row: &Command) -> Result<bool, NoMemory> {
+    let mut stream = Text::new(alloc);
+    add_often(&mut stream, &[(b"x", row.0), (row.1, 1), (b"NOOP\n", 1)])?;
+    let mut shown = Text::new(alloc);
+    add_shown(&mut shown, row)?;
+    reads_so_at_each(alloc, &(stream.bytes(), &[], shown.bytes()), &LONG_CUTS)
 }
 
 #[test]
@@ -280,8 +257,8 @@ enum Step {
     Data,
 }
 
-/// The steps of one reader, each with its lines as `shown` writes them, `?` where the last of them
-/// asks, and `!` where it may turn to a message then.
+/// The steps of one reader, each with its lines as `show_lines` writes them, `?` where the last of
+/// them asks, and `!` where it may turn to a message then.
 static STEPS: [(Step, &[u8]); 6] = [
     (Step::Feed(b"DATA\r\nHELO"), b"C<DATA>?!"),
     (Step::Feed(b" a\r"), b"!"),
@@ -294,37 +271,48 @@ static STEPS: [(Step, &[u8]); 6] = [
     (Step::More, b"C<DATA>?!"),
 ];
 
-fn stepped(alloc: Global, reader: &mut Lines, step: &Step) -> Result<Text, NoMemory> {
-    let lines = match step {
-        Step::Feed(piece) => reader.feed(piece)?,
-        Step::More => reader.more()?,
+fn stepped(alloc: Global, reader: &mut Lines, step: &Step) -> Result<Seq<Line>, NoMemory> {
+    match step {
+        Step::Feed(piece) => reader.feed(piece),
+        Step::More => reader.more(),
         Step::Data => {
             if reader.may_turn() {
                 reader.data();
             }
-            Seq::new(alloc)
+            Ok(Seq::new(alloc))
         }
-    };
-    told(alloc, &lines, reader.may_turn())
+    }
 }
 
-fn told(alloc: Global, lines: &Seq<Line>, may_turn: bool) -> Result<Text, NoMemory> {
-    let mut text = shown(alloc, lines)?;
+fn tell(text: &mut Text, lines: &Seq<Line>, may_turn: bool) -> Result<(), NoMemory> {
+    show_lines(text, lines)?;
     if last_asks(lines.items()) {
         text.push(b'?')?;
     }
     if may_turn {
         text.push(b'!')?;
     }
-    Ok(text)
+    Ok(())
+}
+
+fn is_told(
+    alloc: Global,
+    reader: &mut Lines,
+    step: &Step,
+    wanted: &[u8],
+) -> Result<bool, NoMemory> {
+    let lines = stepped(alloc, reader, step)?;
+    let mut text = Text::new(alloc);
+    tell(&mut text, &lines, reader.may_turn())?;
+    Ok(text.bytes() == wanted)
 }
 
 #[test]
 fn bytes_after_data_wait_for_its_answer(rt: HostRuntime) -> Result<(), NoMemory> {
     let mut reader = Lines::new(rt.alloc());
     for (at, (step, wanted)) in STEPS.iter().enumerate() {
-        let told = stepped(rt.alloc(), &mut reader, step)?;
-        assert_eq!(rt; told.bytes(), *wanted, "step {at}");
+        let is_told = is_told(rt.alloc(), &mut reader, step, wanted)?;
+        assert!(rt; is_told, "step {at}");
     }
     Ok(())
 }

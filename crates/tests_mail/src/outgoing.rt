@@ -1,9 +1,12 @@
-use mail_base::{Config, HeaderLine, Macros, Mailer, NoMemory, Seq, Text};
+use crate::texts::add;
+use mail_base::{Config, HeaderLine, Macros, Mailer, NoMemory, Seq, Split, Text};
 use mail_header::{added, date_of, dated, outgoing, split};
 use std::alloc::Global;
 
 /// An H line: its flags, its name and its template.
-static LINES: [(&[u8], &[u8], &[u8]); 10] = [
+pub(crate) type Line = (&'static [u8], &'static [u8], &'static [u8]);
+
+static LINES: [Line; 10] = [
     (b"", b"Received", b"from $s"),
     (b"D", b"Date", b"$b"),
     (b"DM", b"Resent-Date", b"$b"),
@@ -23,11 +26,11 @@ static MACROS: [(&[u8], &[u8]); 4] = [
     (b"g", b"bob@c.example"),
 ];
 
-fn add_line(config: &mut Config, row: &(&[u8], &[u8], &[u8])) -> Result<(), NoMemory> {
+pub(crate) fn add_line(config: &mut Config, line: &Line) -> Result<(), NoMemory> {
     let alloc = config.headers.allocator();
-    let flags = Text::of(alloc, row.0)?;
-    let name = Text::of(alloc, row.1)?;
-    let template = Text::of(alloc, row.2)?;
+    let flags = Text::of(alloc, line.0)?;
+    let name = Text::of(alloc, line.1)?;
+    let template = Text::of(alloc, line.2)?;
     config.headers.push(HeaderLine {
         flags,
         name,
@@ -35,10 +38,10 @@ fn add_line(config: &mut Config, row: &(&[u8], &[u8], &[u8])) -> Result<(), NoMe
     })
 }
 
-fn config_of(alloc: Global) -> Result<Config, NoMemory> {
+fn config_of(alloc: Global, lines: &[Line]) -> Result<Config, NoMemory> {
     let mut config = Config::new(alloc)?;
-    for row in &LINES {
-        add_line(&mut config, row)?;
+    for line in lines {
+        add_line(&mut config, line)?;
     }
     Ok(config)
 }
@@ -48,13 +51,17 @@ fn define(macros: &mut Macros, name: &[u8], value: &[u8]) -> Result<(), NoMemory
     macros.define(name, &value)
 }
 
+fn first_macros(alloc: Global) -> Result<Macros, NoMemory> {
+    let mut macros = Macros::new(alloc);
+    for row in &MACROS {
+        define(&mut macros, row.0, row.1)?;
+    }
+    Ok(macros)
+}
+
 // The macros of a message at the beginning of 2026.
 fn macros_of(alloc: Global) -> Result<Macros, NoMemory> {
-    let mut macros = Macros::new(alloc);
-    for (name, value) in &MACROS {
-        define(&mut macros, name, value)?;
-    }
-    dated(alloc, macros, 1_767_225_600)
+    dated(alloc, first_macros(alloc)?, 1_767_225_600)
 }
 
 fn mailer_of(alloc: Global, path: &[u8], flags: &[u8], end: &[u8]) -> Result<Mailer, NoMemory> {
@@ -77,11 +84,9 @@ fn mailer_of(alloc: Global, path: &[u8], flags: &[u8], end: &[u8]) -> Result<Mai
     })
 }
 
-fn show(text: &mut Text, headers: &[Text]) -> Result<(), NoMemory> {
-    for header in headers {
-        text.push(b'<')?;
-        text.extend(header.bytes())?;
-        text.push(b'>')?;
+fn show(text: &mut Text, headers: &Seq<Text>) -> Result<(), NoMemory> {
+    for header in headers.items() {
+        add(text, &[b"<", header.bytes(), b">"])?;
     }
     Ok(())
 }
@@ -142,22 +147,33 @@ static ADDED: [Added; 14] = [
     ),
 ];
 
-fn adds_so(config: &Config, macros: &Macros, row: &Added) -> Result<bool, NoMemory> {
-    let alloc = config.headers.allocator();
+// Writes the headers with those that are added, and what is wanted of them.
+fn show_added(
+    config: &Config,
+    macros: &Macros,
+    row: &Added,
+    text: &mut Text,
+    wanted: &mut Text,
+) -> Result<(), NoMemory> {
+    let alloc = text.allocator();
     let mailer = mailer_of(alloc, b"/bin/mail", row.0, b"\n")?;
     let headers = split(&Text::of(alloc, row.1)?)?.headers;
-    let all = added(config, &mailer, macros, &headers)?;
-    let mut wanted = Text::new(alloc);
-    show(&mut wanted, headers.items())?;
+    show(wanted, &headers)?;
     wanted.extend(row.2)?;
+    show(text, &added(config, &mailer, macros, &headers)?)
+}
+
+fn adds_so(config: &Config, macros: &Macros, row: &Added) -> Result<bool, NoMemory> {
+    let alloc = config.headers.allocator();
     let mut text = Text::new(alloc);
-    show(&mut text, all.items())?;
+    let mut wanted = Text::new(alloc);
+    show_added(config, macros, row, &mut text, &mut wanted)?;
     Ok(text.bytes() == wanted.bytes())
 }
 
 #[test]
 fn headers_are_added(rt: HostRuntime) -> Result<(), NoMemory> {
-    let config = config_of(rt.alloc())?;
+    let config = config_of(rt.alloc(), &LINES)?;
     let macros = macros_of(rt.alloc())?;
     for (at, row) in ADDED.iter().enumerate() {
         assert!(rt; adds_so(&config, &macros, row)?, "row {at}");
@@ -287,12 +303,33 @@ static HANDED: [Handed; 19] = [
 
 fn is_handed(alloc: Global, row: &Handed) -> Result<bool, NoMemory> {
     let (path, flags, end) = row.0;
-    let mailer = mailer_of(alloc, path, flags, end)?;
     let mut macros = macros_of(alloc)?;
     define(&mut macros, b"g", row.1)?;
     let parts = split(&Text::of(alloc, row.2)?)?;
-    let text = outgoing(&mailer, &macros, &parts.headers, &parts.body)?;
-    Ok(text.bytes() == row.3)
+    let mailer = mailer_of(alloc, path, flags, end)?;
+    is_outgoing(&mailer, &macros, &parts, row.3)
+}
+
+fn is_outgoing(
+    mailer: &Mailer,
+    macros: &Macros,
+    parts: &Split,
+    wanted: &[u8],
+) -> Result<bool, NoMemory> {
+    let text = outgoing(mailer, macros, &parts.headers, &parts.body)?;
+    Ok(text.bytes() == wanted)
+}
+
+// Without the macros g and d the line `From ` is still one.
+fn is_unnamed(alloc: Global) -> Result<bool, NoMemory> {
+    let mailer = mailer_of(alloc, b"/bin/mail", b"", b"\n")?;
+    let parts = split(&Text::new(alloc))?;
+    is_outgoing(
+        &mailer,
+        &Macros::new(alloc),
+        &parts,
+        b"From MAILER-DAEMON \n\n",
+    )
 }
 
 #[test]
@@ -300,36 +337,25 @@ fn mailers_get_their_text(rt: HostRuntime) -> Result<(), NoMemory> {
     for (at, row) in HANDED.iter().enumerate() {
         assert!(rt; is_handed(rt.alloc(), row)?, "row {at}");
     }
+    assert!(rt; is_unnamed(rt.alloc())?);
     Ok(())
 }
 
-// Without the macros g and d the line is still one.
-#[test]
-fn a_line_from_needs_no_macros(rt: HostRuntime) -> Result<(), NoMemory> {
-    let mailer = mailer_of(rt.alloc(), b"/bin/mail", b"", b"\n")?;
-    let macros = Macros::new(rt.alloc());
-    let headers = Seq::new(rt.alloc());
-    let text = outgoing(&mailer, &macros, &headers, &Text::new(rt.alloc()))?;
-    assert!(rt; text.bytes() == b"From MAILER-DAEMON \n\n".as_slice());
-    Ok(())
-}
+/// The mailer's path and flags, and what it gets with the headers that are added: its first line
+/// and what comes behind that, or nothing and all.
+type Whole = (&'static [u8], &'static [u8], &'static [u8], &'static [u8]);
 
-static MADE: &[u8] = b"X-Fold: a\r\n b c\r\nX-Always: none\r\nX-Empty:\r\n\r\n";
-
-// A header that an H line made keeps its line ends, which become the mailer's.
-#[test]
-fn made_headers_end_as_others(rt: HostRuntime) -> Result<(), NoMemory> {
-    let config = config_of(rt.alloc())?;
-    let macros = macros_of(rt.alloc())?;
-    let mailer = mailer_of(rt.alloc(), b"[IPC]", b"y", b"\n")?;
-    let headers = added(&config, &mailer, &macros, &Seq::new(rt.alloc()))?;
-    let text = outgoing(&mailer, &macros, &headers, &Text::new(rt.alloc()))?;
-    assert!(rt; text.bytes() == MADE);
-    Ok(())
-}
+/// Of a message without headers and body: a header that an H line made keeps its line ends, which
+/// become the mailer's.
+static MADE: Whole = (
+    b"[IPC]",
+    b"y",
+    b"",
+    b"X-Fold: a\r\n b c\r\nX-Always: none\r\nX-Empty:\r\n\r\n",
+);
 
 /// The H lines, the macros, the mailers and the texts of the page OUTGOING in docs.
-static PAGE_LINES: [(&[u8], &[u8], &[u8]); 5] = [
+static PAGE_LINES: [Line; 5] = [
     (b"", b"Received", b"from $s by $j with $r id $i; $b"),
     (b"D", b"Date", b"$a"),
     (b"F", b"From", b"$g"),
@@ -340,55 +366,105 @@ static PAGE_LINES: [(&[u8], &[u8], &[u8]); 5] = [
 static PAGE_MESSAGE: &[u8] = b"Received: from c.example by mx.example with ESMTP id w000000000001; \
     Thu, 1 Jan 2026 00:00:00 +0000\r\nSubject: hi\r\nTo: ann@mx.example\r\n\r\nhello\r\n.\r\n";
 
-static PAGE_LOCAL: &[u8] = b"Received: from c.example by mx.example with ESMTP id w000000000001; \
+const PAGE_LOCAL: &[u8] = b"Received: from c.example by mx.example with ESMTP id w000000000001; \
     Thu, 1 Jan 2026 00:00:00 +0000\nSubject: hi\nTo: ann@mx.example\n\
     Date: Thu, 1 Jan 2026 00:00:00 +0000\nFrom: bob@c.example\n\
     Message-Id: <202601010000.w000000000001@mx.example>\n\nhello\n.\n";
 
-static PAGE_FROM: &[u8] = b"From bob@c.example Thu Jan  1 00:00:10 2026\n";
+const PAGE_FROM: &[u8] = b"From bob@c.example Thu Jan  1 00:00:10 2026\n";
 
-static PAGE_SMTP: &[u8] = b"Received: from c.example by mx.example with ESMTP id w000000000001; \
+const PAGE_SMTP: &[u8] = b"Received: from c.example by mx.example with ESMTP id w000000000001; \
     Thu, 1 Jan 2026 00:00:00 +0000\r\nSubject: hi\r\nTo: ann@mx.example\r\n\
     Date: Thu, 1 Jan 2026 00:00:00 +0000\r\nFrom: bob@c.example\r\n\
     Message-Id: <202601010000.w000000000001@mx.example>\r\n\r\nhello\r\n.\r\n";
 
-fn page_config(alloc: Global) -> Result<Config, NoMemory> {
-    let mut config = Config::new(alloc)?;
-    for row in &PAGE_LINES {
-        add_line(&mut config, row)?;
+static PAGE: [Whole; 3] = [
+    (b"/bin/mail", b"lsDFMAw5n", b"", PAGE_LOCAL),
+    (b"/bin/sh", b"lsDFM", PAGE_FROM, PAGE_LOCAL),
+    (b"[IPC]", b"mDFMuX", b"", PAGE_SMTP),
+];
+
+/// The configuration, the macros and the message of which mailers get a text.
+struct Ground {
+    config: Config,
+    macros: Macros,
+    parts: Split,
+}
+
+// Written out, since a caller's proof goes through the parts of a derived drop at each way out.
+impl Drop for Ground {
+    fn drop(self) {
+        let Ground {
+            config: _,
+            macros: _,
+            parts: _,
+        } = self;
     }
-    Ok(config)
+}
+
+fn ground_of(alloc: Global) -> Result<Ground, NoMemory> {
+    let config = config_of(alloc, &LINES)?;
+    let macros = macros_of(alloc)?;
+    let parts = split(&Text::new(alloc))?;
+    Ok(Ground {
+        config,
+        macros,
+        parts,
+    })
 }
 
 // The macros ten seconds behind the moment of receipt.
 fn page_macros(alloc: Global, headers: &Seq<Text>) -> Result<Macros, NoMemory> {
-    let mut macros = Macros::new(alloc);
-    for (name, value) in &MACROS {
-        define(&mut macros, name, value)?;
-    }
-    let date = date_of(headers, 1_767_225_600)?;
-    macros.define(b"a", &date)?;
+    let mut macros = first_macros(alloc)?;
+    macros.define(b"a", &date_of(headers, 1_767_225_600)?)?;
     dated(alloc, macros, 1_767_225_610)
 }
 
-// What a mailer of the page gets.
-fn page_text(alloc: Global, path: &[u8], flags: &[u8]) -> Result<Text, NoMemory> {
-    let config = page_config(alloc)?;
+fn page_of(alloc: Global) -> Result<Ground, NoMemory> {
+    let config = config_of(alloc, &PAGE_LINES)?;
     let parts = split(&Text::of(alloc, PAGE_MESSAGE)?)?;
     let macros = page_macros(alloc, &parts.headers)?;
+    Ok(Ground {
+        config,
+        macros,
+        parts,
+    })
+}
+
+// What a mailer gets.
+fn whole_text(ground: &Ground, path: &[u8], flags: &[u8]) -> Result<Text, NoMemory> {
+    let alloc = ground.config.headers.allocator();
     let mailer = mailer_of(alloc, path, flags, b"\n")?;
-    let headers = added(&config, &mailer, &macros, &parts.headers)?;
-    outgoing(&mailer, &macros, &headers, &parts.body)
+    let headers = added(
+        &ground.config,
+        &mailer,
+        &ground.macros,
+        &ground.parts.headers,
+    )?;
+    outgoing(&mailer, &ground.macros, &headers, &ground.parts.body)
+}
+
+fn is_whole(ground: &Ground, row: &Whole) -> Result<bool, NoMemory> {
+    let text = whole_text(ground, row.0, row.1)?;
+    let bytes = text.bytes();
+    Ok(
+        bytes.len() == row.2.len() + row.3.len()
+            && bytes.starts_with(row.2)
+            && bytes.ends_with(row.3),
+    )
+}
+
+#[test]
+fn made_headers_end_as_others(rt: HostRuntime) -> Result<(), NoMemory> {
+    assert!(rt; is_whole(&ground_of(rt.alloc())?, &MADE)?);
+    Ok(())
 }
 
 #[test]
 fn the_page_shows_what_mailers_get(rt: HostRuntime) -> Result<(), NoMemory> {
-    let local = page_text(rt.alloc(), b"/bin/mail", b"lsDFMAw5n")?;
-    assert!(rt; local.bytes() == PAGE_LOCAL);
-    let prog = page_text(rt.alloc(), b"/bin/sh", b"lsDFM")?;
-    assert!(rt; prog.bytes().starts_with(PAGE_FROM) && prog.bytes().ends_with(PAGE_LOCAL));
-    assert!(rt; prog.len() == PAGE_FROM.len() + PAGE_LOCAL.len());
-    let smtp = page_text(rt.alloc(), b"[IPC]", b"mDFMuX")?;
-    assert!(rt; smtp.bytes() == PAGE_SMTP);
+    let page = page_of(rt.alloc())?;
+    for (at, row) in PAGE.iter().enumerate() {
+        assert!(rt; is_whole(&page, row)?, "row {at}");
+    }
     Ok(())
 }

@@ -1,5 +1,7 @@
-use mail_base::{Config, HeaderLine, NoMemory, Text};
+use crate::outgoing::add_line;
+use mail_base::{Config, NoMemory, Text};
 use mail_header::received;
+use std::alloc::Global;
 
 /// The template of an H line, the value of the macro x, and the header that is made.
 type Row = (&'static [u8], &'static [u8], &'static [u8]);
@@ -19,18 +21,6 @@ static ROWS: [Row; 12] = [
     (b"$x$x", b"\n", b"rECEIVED:   "),
 ];
 
-fn add_line(config: &mut Config, name: &[u8], template: &[u8]) -> Result<(), NoMemory> {
-    let alloc = config.headers.allocator();
-    let name = Text::of(alloc, name)?;
-    let template = Text::of(alloc, template)?;
-    let flags = Text::of(alloc, b"q")?;
-    config.headers.push(HeaderLine {
-        flags,
-        name,
-        template,
-    })
-}
-
 fn set(config: &mut Config, value: &[u8]) -> Result<(), NoMemory> {
     let alloc = config.headers.allocator();
     let name = Text::of(alloc, b"x")?;
@@ -38,24 +28,32 @@ fn set(config: &mut Config, value: &[u8]) -> Result<(), NoMemory> {
     config.macros.set(&name, &value)
 }
 
-fn is_made(config: &mut Config, row: &Row) -> Result<bool, NoMemory> {
-    add_line(config, b"Subject", b"none")?;
-    add_line(config, b"rECEIVED", row.0)?;
-    add_line(config, b"Received", b"second")?;
-    set(config, row.1)?;
-    match received(config, &config.macros)? {
+fn add_lines(config: &mut Config, template: &'static [u8]) -> Result<(), NoMemory> {
+    add_line(config, &(b"q", b"Subject", b"none"))?;
+    add_line(config, &(b"q", b"rECEIVED", template))?;
+    add_line(config, &(b"q", b"Received", b"second"))
+}
+
+fn is_made(alloc: Global, row: &Row) -> Result<bool, NoMemory> {
+    let mut config = Config::new(alloc)?;
+    add_lines(&mut config, row.0)?;
+    set(&mut config, row.1)?;
+    match received(&config, &config.macros)? {
         Some(header) => Ok(header.bytes() == row.2),
         None => Ok(false),
     }
 }
 
+fn is_made_of_nothing(alloc: Global) -> Result<bool, NoMemory> {
+    let config = Config::new(alloc)?;
+    Ok(received(&config, &config.macros)?.is_some())
+}
+
 #[test]
 fn received_is_made(rt: HostRuntime) -> Result<(), NoMemory> {
-    let config = Config::new(rt.alloc())?;
-    assert!(rt; received(&config, &config.macros)?.is_none());
+    assert!(rt; !is_made_of_nothing(rt.alloc())?);
     for (at, row) in ROWS.iter().enumerate() {
-        let mut config = Config::new(rt.alloc())?;
-        assert!(rt; is_made(&mut config, row)?, "row {at}");
+        assert!(rt; is_made(rt.alloc(), row)?, "row {at}");
     }
     Ok(())
 }

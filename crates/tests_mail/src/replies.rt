@@ -1,4 +1,4 @@
-use crate::receive::fill;
+use crate::texts::{add, add_number, add_often};
 use mail_base::{NoMemory, Text};
 use smtp_lines::{Seen, reply};
 use std::alloc::Global;
@@ -6,7 +6,7 @@ use std::alloc::Global;
 /// Bytes, and what is seen of a reply at their front, as `show` writes it.
 type Row = (&'static [u8], &'static [u8]);
 
-static ROWS: [Row; 44] = [
+static ROWS: [Row; 45] = [
     (b"", b"part"),
     (b"2", b"part"),
     (b"25", b"part"),
@@ -39,6 +39,10 @@ static ROWS: [Row; 44] = [
     (b"250 8BITMIME\r\n", b"250 <8BITMIME> 14 eight"),
     (b"250 8BITMIME \r\n", b"250 <8BITMIME > 15"),
     (b"250-h\r\n250 x8BITMIME\r\n", b"250 <h> 22"),
+    (
+        b"220-mx.example ESMTP\r\n220-two\n220 8bitmime\r\n",
+        b"220 <mx.example ESMTP> 44 eight",
+    ),
     (b"250-a\r\n251 b\r\n", b"bad"),
     (b"250-a\r\n26", b"bad"),
     (b"250-a\r\n\r\n", b"bad"),
@@ -64,9 +68,8 @@ fn show(text: &mut Text, bytes: &[u8]) -> Result<(), NoMemory> {
             eight,
             length,
         } => {
-            let before = format!(in text.allocator(); "{code} <")?;
-            text.extend(before.as_bytes())?;
-            text.extend(first)?;
+            add_number(text, code.into())?;
+            add(text, &[b" <", first, b"> "])?;
             show_end(text, eight, length)
         }
         Seen::Part => text.extend(b"part"),
@@ -75,8 +78,7 @@ fn show(text: &mut Text, bytes: &[u8]) -> Result<(), NoMemory> {
 }
 
 fn show_end(text: &mut Text, eight: bool, length: usize) -> Result<(), NoMemory> {
-    let behind = format!(in text.allocator(); "> {length}")?;
-    text.extend(behind.as_bytes())?;
+    add_number(text, length as u128)?;
     if eight {
         text.extend(b" eight")?;
     }
@@ -110,65 +112,59 @@ fn is_part_at_each(bytes: &[u8]) -> bool {
 }
 
 #[test]
-fn a_front_is_a_part(rt: HostRuntime) -> Result<(), NoMemory> {
+fn a_front_is_a_part(rt: HostRuntime) {
     assert!(rt; is_part_at_each(LONG));
-    assert!(rt; seen_so(rt.alloc(), &(LONG, b"220 <mx.example ESMTP> 44 eight"))?);
-    Ok(())
 }
 
-/// So many lines, of which all but the last go on.
-fn lines(alloc: Global, count: usize) -> Result<Text, NoMemory> {
-    let mut text = Text::new(alloc);
-    for _ in 1..count {
-        text.extend(b"250-\n")?;
-    }
-    text.extend(b"250\n")?;
-    Ok(text)
-}
+/// What a reply begins with, what stands so many times behind that, its end, how many of its bytes
+/// are there, and what they are.
+type Long = (
+    &'static [u8],
+    &'static [u8],
+    usize,
+    &'static [u8],
+    usize,
+    &'static [u8],
+);
 
-/// A line of so many bytes with its end.
-fn line(alloc: Global, size: usize) -> Result<Text, NoMemory> {
-    let mut text = Text::of(alloc, b"250 ")?;
-    fill(&mut text, b'x', size.saturating_sub(6))?;
-    text.extend(b"\r\n")?;
-    Ok(text)
-}
-
-fn is_whole(bytes: &[u8]) -> bool {
-    match reply(bytes) {
-        Seen::Whole { length, .. } => length == bytes.len(),
-        _ => false,
-    }
-}
-
-/// So many bytes of a text, or all.
-fn front(text: &Text, count: usize) -> &[u8] {
-    let bytes = text.bytes();
-    match bytes.get(..count) {
-        Some(front) => front,
-        None => bytes,
-    }
-}
-
-#[test]
-fn lines_are_counted(rt: HostRuntime) -> Result<(), NoMemory> {
-    let most = lines(rt.alloc(), 100)?;
-    let more = lines(rt.alloc(), 101)?;
-    assert!(rt; is_whole(most.bytes()));
-    assert!(rt; matches!(reply(more.bytes()), Seen::Bad));
+static MOST: [Long; 8] = [
+    (b"", b"250-\n", 99, b"250\n", 499, b"whole"),
+    (b"", b"250-\n", 100, b"250\n", 504, b"bad"),
     // The sign of the 100th line tells already.
-    assert!(rt; matches!(reply(front(&more, 499)), Seen::Bad));
-    assert!(rt; matches!(reply(front(&more, 498)), Seen::Part));
-    Ok(())
+    (b"", b"250-\n", 100, b"250\n", 499, b"bad"),
+    (b"", b"250-\n", 100, b"250\n", 498, b"part"),
+    (b"250 ", b"x", 2_042, b"\r\n", 2_048, b"whole"),
+    (b"250 ", b"x", 2_043, b"\r\n", 2_049, b"bad"),
+    (b"250 ", b"x", 2_043, b"\r\n", 2_047, b"part"),
+    (b"250 ", b"x", 2_043, b"\r\n", 2_048, b"bad"),
+];
+
+fn kind(bytes: &[u8]) -> &'static [u8] {
+    match reply(bytes) {
+        Seen::Whole { length, .. } if length == bytes.len() => b"whole",
+        Seen::Whole { .. } => b"more",
+        Seen::Part => b"part",
+        Seen::Bad => b"bad",
+    }
+}
+
+fn is_front(bytes: &[u8], count: usize, wanted: &[u8]) -> bool {
+    match bytes.get(..count) {
+        Some(front) => kind(front) == wanted,
+        None => false,
+    }
+}
+
+fn is_kind(alloc: Global, row: &Long) -> Result<bool, NoMemory> {
+    let mut text = Text::new(alloc);
+    add_often(&mut text, &[(row.0, 1), (row.1, row.2), (row.3, 1)])?;
+    Ok(is_front(text.bytes(), row.4, row.5))
 }
 
 #[test]
-fn long_lines_are_bad(rt: HostRuntime) -> Result<(), NoMemory> {
-    let most = line(rt.alloc(), 2048)?;
-    let more = line(rt.alloc(), 2049)?;
-    assert!(rt; is_whole(most.bytes()));
-    assert!(rt; matches!(reply(more.bytes()), Seen::Bad));
-    assert!(rt; matches!(reply(front(&more, 2047)), Seen::Part));
-    assert!(rt; matches!(reply(front(&more, 2048)), Seen::Bad));
+fn a_reply_has_100_lines_of_2048_bytes_at_most(rt: HostRuntime) -> Result<(), NoMemory> {
+    for (at, row) in MOST.iter().enumerate() {
+        assert!(rt; is_kind(rt.alloc(), row)?, "row {at}");
+    }
     Ok(())
 }
