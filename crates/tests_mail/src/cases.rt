@@ -1,9 +1,7 @@
-use crate::talk::{Limits, NO_LIMITS, Talk};
-use mail_base::{NoMemory, Text};
+use crate::receive::{LIMITED_SESSIONS, SESSIONS};
+use crate::talk::{Limits, NO_LIMITS, Row, Talk};
+use mail_base::NoMemory;
 use std::alloc::Global;
-
-/// What is said before a line, the line, and the reply to it.
-type Row = (&'static [u8], &'static [u8], &'static [u8]);
 
 /// Each case of the table of replies in its order and, where two cases beside each other in a
 /// command's order apply to a line, the line to which both do: the first is replied.
@@ -367,7 +365,7 @@ static SMALL_CASES: [Row; 16] = [
     ),
 ];
 
-const HOPS: Limits = Limits {
+pub(crate) const HOPS: Limits = Limits {
     size: 99_999_999,
     recipients: 20_000,
     hops: 2,
@@ -412,12 +410,20 @@ static HOP_CASES: [Row; 6] = [
     ),
 ];
 
+const LIMITED: Limits = Limits {
+    size: 60,
+    recipients: 2,
+    hops: 1,
+};
+
 // The tables by number, each with its configuration.
 fn table(number: usize) -> (Limits, &'static [Row]) {
     match number {
         0 => (NO_LIMITS, &CASES),
         1 => (SMALL, &SMALL_CASES),
-        _ => (HOPS, &HOP_CASES),
+        2 => (HOPS, &HOP_CASES),
+        3 => (NO_LIMITS, &SESSIONS),
+        _ => (LIMITED, &LIMITED_SESSIONS),
     }
 }
 
@@ -430,195 +436,14 @@ fn is_replied(alloc: Global, limits: Limits, row: &Row) -> Result<bool, NoMemory
 }
 
 #[test]
-fn each_case_gets_its_reply_in_its_order(rt: HostRuntime) -> Result<(), NoMemory> {
-    for number in 0..3 {
+fn lines_get_their_replies_in_their_order_and_messages_are_split(
+    rt: HostRuntime,
+) -> Result<(), NoMemory> {
+    for number in 0..5 {
         let (limits, rows) = table(number);
         for (at, row) in rows.iter().enumerate() {
             let is_replied = is_replied(rt.alloc(), limits, row)?;
             assert!(rt; is_replied, "table {number}, row {at}");
-        }
-    }
-    Ok(())
-}
-
-/// Bytes that come so many times, and what is said to them each time.
-type Step = (&'static [u8], usize, &'static [u8]);
-
-/// Faults in a session, and what is at a limit of bytes.
-static FAULTS: [Step; 20] = [
-    (
-        b"EHLO c.example\r\n",
-        1,
-        b"250-localhost Hello\r\n250-PIPELINING\r\n250-SIZE 16777216\r\n250 8BITMIME\r\n",
-    ),
-    (b"RCPT TO:<a>\r\n", 1, b"503 5.5.1 Need MAIL first\r\n"),
-    // Lines of 2,049 bytes, of which the second has a bad byte and no verb, and one of 2,048.
-    (b"NOOP ", 1, b""),
-    (b"x", 2_042, b""),
-    (b"\r\n", 1, b"500 5.5.2 Line too long\r\n"),
-    (b"\x01", 2_047, b""),
-    (b"\r\n", 1, b"500 5.5.2 Line too long\r\n"),
-    (b"NOOP ", 1, b""),
-    (b"x", 2_041, b""),
-    (b"\r\n", 1, b"250 2.0.0 OK\r\n"),
-    // A path of 257 bytes, and one of 256.
-    (b"MAIL FROM:<", 1, b""),
-    (b"x", 64, b""),
-    (b"@", 1, b""),
-    (b"y", 190, b""),
-    (b">\r\n", 1, b"501 5.1.3 Path too long\r\n"),
-    (b"MAIL FROM:<", 1, b""),
-    (b"x", 64, b""),
-    (b"@", 1, b""),
-    (b"y", 189, b""),
-    (b">\r\n", 1, b"250 2.1.0 Sender ok\r\n"),
-];
-
-/// Recipients at and above their number, where the configuration says nothing.
-static RECIPIENTS: [Step; 4] = [
-    (b"MAIL FROM:<a>\r\n", 1, b"250 2.1.0 Sender ok\r\n"),
-    (
-        b"RCPT TO:<ann@mx.example>\r\n",
-        101,
-        b"250 2.1.5 Recipient ok\r\n",
-    ),
-    (b"RCPT TO:<a>\r\n", 9_899, b"250 2.1.5 Recipient ok\r\n"),
-    (
-        b"RCPT TO:<a>\r\nRCPT TO:<no>\r\n",
-        2,
-        b"452 4.5.3 Too many recipients\r\n452 4.5.3 Too many recipients\r\n",
-    ),
-];
-
-/// Rows at and above their number, where there may be more recipients; a refusal stands
-/// before it.
-static DRAWN: [Step; 9] = [
-    (b"MAIL FROM:<a>\r\n", 1, b"250 2.1.0 Sender ok\r\n"),
-    (
-        b"RCPT TO:<twin@a>\r\n",
-        4_999,
-        b"250 2.1.5 Recipient ok\r\n",
-    ),
-    (b"RCPT TO:<a>\r\n", 1, b"250 2.1.5 Recipient ok\r\n"),
-    (
-        b"RCPT TO:<twin@b>\r\n",
-        1,
-        b"452 4.5.3 Too many recipients\r\n",
-    ),
-    (b"RCPT TO:<a>\r\n", 1, b"250 2.1.5 Recipient ok\r\n"),
-    (b"RCPT TO:<b>\r\n", 2, b"452 4.5.3 Too many recipients\r\n"),
-    (b"RCPT TO:<no>\r\n", 1, b"550 5.7.1 Refused\r\n"),
-    (b"RSET\r\n", 1, b"250 2.0.0 Reset state\r\n"),
-    (b"MAIL FROM:<a>\r\n", 1, b"250 2.1.0 Sender ok\r\n"),
-];
-
-/// 26 hops; and a header block that is too large, also with 26 hops.
-static LOOPED: [Step; 12] = [
-    (b"MAIL FROM:<a>\r\n", 1, b"250 2.1.0 Sender ok\r\n"),
-    (b"RCPT TO:<b>\r\n", 1, b"250 2.1.5 Recipient ok\r\n"),
-    (
-        b"DATA\r\n",
-        1,
-        b"354 Enter mail, end with \".\" on a line by itself\r\n",
-    ),
-    (b"Received: x\r\n", 26, b"+"),
-    (b".\r\n", 1, b"554 5.4.6 Too many hops\r\n"),
-    (b"MAIL FROM:<a>\r\n", 1, b"250 2.1.0 Sender ok\r\n"),
-    (b"RCPT TO:<b>\r\n", 1, b"250 2.1.5 Recipient ok\r\n"),
-    (
-        b"DATA\r\n",
-        1,
-        b"354 Enter mail, end with \".\" on a line by itself\r\n",
-    ),
-    (b"Received: x\r\n", 5_042, b"+"),
-    (b".\r\n", 1, b"552 5.6.0 Header too large\r\n"),
-    (b"RCPT TO:<b>\r\n", 1, b"503 5.5.1 Need MAIL first\r\n"),
-    (
-        b"QUIT\r\n",
-        1,
-        b"221 2.0.0 localhost closing connection\r\n",
-    ),
-];
-
-const SMALLER: Limits = Limits {
-    size: 65_536,
-    recipients: 0,
-    hops: 0,
-};
-
-/// A header block that is too large, in a message that is too large.
-static LARGE: [Step; 5] = [
-    (b"MAIL FROM:<a>\r\n", 1, b"250 2.1.0 Sender ok\r\n"),
-    (b"RCPT TO:<b>\r\n", 1, b"250 2.1.5 Recipient ok\r\n"),
-    (
-        b"DATA\r\n",
-        1,
-        b"354 Enter mail, end with \".\" on a line by itself\r\n",
-    ),
-    (b"Received: x\r\n", 5_042, b"+"),
-    (b".\r\n", 1, b"552 5.3.4 Message too large\r\n"),
-];
-
-/// 25 hops.
-static TRAVELLED: [Step; 5] = [
-    (b"MAIL FROM:<a>\r\n", 1, b"250 2.1.0 Sender ok\r\n"),
-    (b"RCPT TO:<b>\r\n", 1, b"250 2.1.5 Recipient ok\r\n"),
-    (
-        b"DATA\r\n",
-        1,
-        b"354 Enter mail, end with \".\" on a line by itself\r\n",
-    ),
-    (b"Received:\r\n", 25, b"+"),
-    (
-        b".\r\n",
-        1,
-        b"<a><b>{Received:}{Received:}{Received:}{Received:}{Received:}{Received:}{Received:}\
-            {Received:}{Received:}{Received:}{Received:}{Received:}{Received:}{Received:}\
-            {Received:}{Received:}{Received:}{Received:}{Received:}{Received:}{Received:}\
-            {Received:}{Received:}{Received:}{Received:}[] SMTP  10.0.0.1\r\n\
-            250 2.0.0 w000000000001 Message accepted for delivery\r\n",
-    ),
-];
-
-// The dialogues by number, each with its configuration.
-fn dialogue(number: usize) -> (Limits, &'static [Step]) {
-    match number {
-        0 => (NO_LIMITS, &FAULTS),
-        1 => (NO_LIMITS, &RECIPIENTS),
-        2 => (HOPS, &DRAWN),
-        3 => (NO_LIMITS, &LOOPED),
-        4 => (SMALLER, &LARGE),
-        _ => (NO_LIMITS, &TRAVELLED),
-    }
-}
-
-// Whether each time the same is said.
-fn goes(talk: &mut Talk, step: &Step) -> Result<bool, NoMemory> {
-    for _ in 0..step.1 {
-        if !is_said(talk, step.0, step.2)? {
-            return Ok(false);
-        }
-    }
-    Ok(true)
-}
-
-fn is_said(talk: &mut Talk, given: &[u8], wanted: &[u8]) -> Result<bool, NoMemory> {
-    talk.said.clear();
-    talk.take(given)?;
-    Ok(is_text(&talk.said, wanted))
-}
-
-fn is_text(said: &Text, wanted: &[u8]) -> bool {
-    said.bytes() == wanted
-}
-
-#[test]
-fn sessions_go_on_at_and_above_their_limits(rt: HostRuntime) -> Result<(), NoMemory> {
-    for number in 0..6 {
-        let (limits, steps) = dialogue(number);
-        let mut talk = Talk::new(rt.alloc(), limits)?;
-        for (at, step) in steps.iter().enumerate() {
-            assert!(rt; goes(&mut talk, step)?, "dialogue {number}, step {at}");
         }
     }
     Ok(())

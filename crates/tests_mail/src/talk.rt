@@ -1,9 +1,13 @@
-use crate::receive::{session_of, tell};
+use crate::headers::add_class;
+use crate::texts::add;
 use judge_samples::TestJudge;
-use mail_base::{Config, NoMemory, Precedence, Seq, Text};
+use mail_base::{Config, Draw, Id, JudgeFault, Kept, Message, NoMemory, Seq, Text};
 use smtp_lines::{Line, Lines};
 use smtp_receive::{Did, Session};
 use std::alloc::Global;
+
+/// What a session is given, a line or several behind that, and what is said to these.
+pub(crate) type Row = (&'static [u8], &'static [u8], &'static [u8]);
 
 /// The limits that a configuration sets, each 0 where it says nothing.
 #[derive(Clone, Copy)]
@@ -19,8 +23,10 @@ pub(crate) const NO_LIMITS: Limits = Limits {
     hops: 0,
 };
 
-/// A session with its reader, under a configuration, and what was said in it.
-#[derive(Drop)]
+/// A session with its reader, under a configuration, and what was said in it after its greeting:
+/// its replies, `+` for a line of data, `!` where a file can't be read, and for a message its
+/// sender, its rows, headers in braces, body in brackets, the three macros, whether it was declared
+/// as 8BITMIME, and its class.
 pub(crate) struct Talk {
     session: Session,
     reader: Lines,
@@ -28,11 +34,23 @@ pub(crate) struct Talk {
     pub(crate) said: Text,
 }
 
+// Written out, since a caller's proof goes through the parts of a derived drop at each way out.
+impl Drop for Talk {
+    fn drop(self) {
+        let Talk {
+            session: _,
+            reader: _,
+            config: _,
+            said: _,
+        } = self;
+    }
+}
+
 impl Talk {
     pub(crate) fn new(alloc: Global, limits: Limits) -> Result<Talk, NoMemory> {
         Ok(Talk {
-            session: session_of(alloc)?,
             config: config_of(alloc, limits)?,
+            session: session_of(alloc)?,
             reader: Lines::new(alloc),
             said: Text::new(alloc),
         })
@@ -48,6 +66,16 @@ impl Talk {
         Ok(())
     }
 
+    /// Goes on as behind a want of memory.
+    pub(crate) fn reset(&mut self) {
+        self.session.reset();
+    }
+
+    pub(crate) fn greet(&mut self) -> Result<(), NoMemory> {
+        let greeting = self.session.greeting()?;
+        self.said.extend(greeting.bytes())
+    }
+
     fn take_more(&mut self) -> Result<(), NoMemory> {
         let fresh = self.reader.more()?;
         self.hear(&fresh)
@@ -61,26 +89,68 @@ impl Talk {
     }
 
     fn answer(&mut self, line: &Line) -> Result<(), NoMemory> {
-        let did = line_in(&mut self.session, line, &self.config)?;
-        if is_grant(&did) && self.reader.may_turn() {
+        match self.session.line(line, &self.config, &mut TestJudge::new()) {
+            Ok(did) => self.tell(&did),
+            Err(JudgeFault::FilesFault) => self.said.extend(b"!"),
+            Err(JudgeFault::NoMemory) => Err(NoMemory),
+        }
+    }
+
+    fn tell(&mut self, did: &Did) -> Result<(), NoMemory> {
+        match did {
+            Did::Granted(text) => self.grant(text),
+            Did::Reply(text) | Did::Bye(text) => self.said.extend(text.bytes()),
+            Did::Taken => self.said.extend(b"+"),
+            Did::Message(message) => self.store(message),
+        }
+    }
+
+    fn grant(&mut self, text: &Text) -> Result<(), NoMemory> {
+        if self.reader.may_turn() {
             self.reader.data();
         }
-        tell(&mut self.session, &did, &mut self.said)
+        self.said.extend(text.bytes())
+    }
+
+    fn store(&mut self, message: &Message) -> Result<(), NoMemory> {
+        show(&mut self.said, message)?;
+        let stored = self.session.stored(&Id::new(1))?;
+        self.said.extend(stored.bytes())
     }
 }
 
-fn line_in(session: &mut Session, line: &Line, config: &Config) -> Result<Did, NoMemory> {
-    match session.line(line, config, &mut TestJudge::new()) {
-        Ok(did) => Ok(did),
-        Err(_) => Err(NoMemory),
-    }
+fn session_of(alloc: Global) -> Result<Session, NoMemory> {
+    let host = Text::of(alloc, b"localhost")?;
+    Session::new(alloc, &host, &Text::of(alloc, b"10.0.0.1")?)
 }
 
-fn is_grant(did: &Did) -> bool {
-    match did {
-        Did::Granted(_) => true,
-        _ => false,
+fn show(said: &mut Text, message: &Message) -> Result<(), NoMemory> {
+    said.extend(message.sender.bytes())?;
+    show_rows(said, &message.rows)?;
+    for header in message.headers.items() {
+        add(said, &[b"{", header.bytes(), b"}"])?;
     }
+    add(said, &[b"[", message.body.bytes(), b"] "])?;
+    show_kept(said, &message.kept)?;
+    if message.eight {
+        said.extend(b" 8BITMIME")?;
+    }
+    if message.class == -60 {
+        said.extend(b" bulk")?;
+    }
+    said.extend(b"\r\n")
+}
+
+fn show_rows(said: &mut Text, rows: &Seq<Draw>) -> Result<(), NoMemory> {
+    for row in rows.items() {
+        said.extend(row.address.bytes())?;
+    }
+    Ok(())
+}
+
+fn show_kept(said: &mut Text, kept: &Kept) -> Result<(), NoMemory> {
+    let (protocol, helo) = (kept.protocol.bytes(), kept.helo.bytes());
+    add(said, &[protocol, b" ", helo, b" ", kept.client.bytes()])
 }
 
 /// The configuration with the classes of `bulk` and `special-delivery`.
@@ -91,12 +161,7 @@ fn config_of(alloc: Global, limits: Limits) -> Result<Config, NoMemory> {
     if limits.hops > 0 {
         config.options.max_hop_count = limits.hops;
     }
-    push_class(&mut config, b"special-delivery", 100)?;
-    push_class(&mut config, b"bulk", -60)?;
+    add_class(&mut config, b"special-delivery", 100)?;
+    add_class(&mut config, b"bulk", -60)?;
     Ok(config)
-}
-
-fn push_class(config: &mut Config, name: &[u8], class: i64) -> Result<(), NoMemory> {
-    let name = Text::of(config.precedences.allocator(), name)?;
-    config.precedences.push(Precedence { name, class })
 }
