@@ -1,11 +1,14 @@
 ghost use Rattle.std.specs.Prelude.{◌<◌};
 
-use mail_base::{NoMemory, Text};
+use crate::texts::{add, add_number};
+use mail_base::{NoMemory, Seq, Text};
 use mail_submit::{Input, InputFault, Submission, submitted};
 use std::alloc::Global;
 
 /// Input, whether the line `.` ends it, and the message.
-static INPUTS: [(&[u8], bool, &[u8]); 14] = [
+type InputRow = (&'static [u8], bool, &'static [u8]);
+
+static INPUTS: [InputRow; 14] = [
     (b"", true, b""),
     (b"\n", true, b"\r\n"),
     (b"a", true, b"a\r\n"),
@@ -22,28 +25,21 @@ static INPUTS: [(&[u8], bool, &[u8]); 14] = [
     (b"\r\n\r", true, b"\r\n\r\n"),
 ];
 
-fn message_of(
-    alloc: Global,
-    row: &(&'static [u8], bool, &'static [u8]),
-    size: usize,
-) -> Result<Text, InputFault>
+fn feed(input: &mut Input, bytes: &[u8], size: usize) -> Result<(), InputFault>
+    requires { 0 < size }
+{
+    for piece in bytes.chunks(size) {
+        input.feed(piece, 1000)?;
+    }
+    Ok(())
+}
+
+fn is_read(alloc: Global, row: &InputRow, size: usize) -> Result<bool, InputFault>
     requires { 0 < size }
 {
     let mut input = Input::new(alloc, row.1);
-    for piece in row.0.chunks(size) {
-        input.feed(piece, 1000)?;
-    }
-    input.end(1000)
-}
-
-fn is_read(
-    alloc: Global,
-    row: &(&'static [u8], bool, &'static [u8]),
-    size: usize,
-) -> Result<bool, InputFault>
-    requires { 0 < size }
-{
-    Ok(message_of(alloc, row, size)?.bytes() == row.2)
+    feed(&mut input, row.0, size)?;
+    Ok(input.end(1000)?.bytes() == row.2)
 }
 
 #[test]
@@ -84,23 +80,22 @@ fn sizes_are_counted(rt: HostRuntime) {
     }
 }
 
+fn add_each(text: &mut Text, items: &Seq<Text>, end: &[u8]) -> Result<(), NoMemory> {
+    for item in items.items() {
+        add(text, &[item.bytes(), end])?;
+    }
+    Ok(())
+}
+
 fn show(text: &mut Text, submission: &Submission) -> Result<(), NoMemory> {
-    for header in submission.headers.items() {
-        text.extend(header.bytes())?;
-        text.push(b'|')?;
-    }
-    text.push(b'{')?;
-    text.extend(submission.body.bytes())?;
-    text.push(b'}')?;
-    for recipient in submission.recipients.items() {
-        text.extend(recipient.bytes())?;
-        text.push(b';')?;
-    }
+    add_each(text, &submission.headers, b"|")?;
+    add(text, &[b"{", submission.body.bytes(), b"}"])?;
+    add_each(text, &submission.recipients, b";")?;
     if let Some(from) = &submission.first_from {
         text.extend(from.bytes())?;
     }
-    let number = format!(in text.allocator(); " {}", submission.size)?;
-    text.extend(number.as_bytes())
+    text.push(b' ')?;
+    add_number(text, submission.size.into())
 }
 
 /// A message, whether recipients come from headers, and what is handed over.
