@@ -2,7 +2,6 @@
 use mail_base::{Config, Macros, MapClass, MapLine, NoMemory, Seq, Text};
 use map_tables::{Found, MapFault, Maps, Named};
 use std::alloc::Global;
-use std::test::Fail;
 
 /// A K line: its name, its class and members, its flags `f`, `m` and `o`, its tag, its columns and
 /// separator, and its file.
@@ -64,12 +63,13 @@ fn file_of(alloc: Global, file: &str) -> Result<Option<Text>, NoMemory> {
 }
 
 fn map_of(alloc: Global, line: &Line) -> Result<MapLine, NoMemory> {
-    let class = class_of(alloc, line)?;
+    let name = Text::of(alloc, line.0.as_bytes())?;
+    let tag = Text::of(alloc, line.4.as_bytes())?;
     let file = file_of(alloc, line.6)?;
     Ok(MapLine {
-        name: Text::of(alloc, line.0.as_bytes())?,
-        tag: Text::of(alloc, line.4.as_bytes())?,
-        class,
+        name,
+        tag,
+        class: class_of(alloc, line)?,
         keeps_case: line.3.contains('f'),
         match_only: line.3.contains('m'),
         optional: line.3.contains('o'),
@@ -89,15 +89,15 @@ pub(crate) fn config_of(alloc: Global, lines: &[Line]) -> Result<Config, NoMemor
     Ok(config)
 }
 
-fn texts_of(alloc: Global, files: &[(&str, &str)]) -> Result<Seq<Named>, NoMemory> {
-    let mut texts = Seq::new(alloc);
+fn add_texts(texts: &mut Seq<Named>, files: &[(&str, &str)]) -> Result<(), NoMemory> {
+    let alloc = texts.allocator();
     for (name, bytes) in files {
         texts.push(Named {
             name: Text::of(alloc, name.as_bytes())?,
             bytes: Text::of(alloc, bytes.as_bytes())?,
         })?;
     }
-    Ok(texts)
+    Ok(())
 }
 
 /// The maps of these K lines with these files, and this host table.
@@ -108,55 +108,47 @@ pub(crate) fn maps_of(
     hosts: &str,
 ) -> Result<Maps, NoMemory> {
     let config = config_of(alloc, lines)?;
-    let texts = texts_of(alloc, files)?;
+    let mut texts = Seq::new(alloc);
+    add_texts(&mut texts, files)?;
     let hosts = Text::of(alloc, hosts.as_bytes())?;
     Maps::load(alloc, &config, &texts, &hosts)
 }
 
-fn args_of(alloc: Global, args: &[&str]) -> Result<Seq<Text>, NoMemory> {
-    let mut list = Seq::new(alloc);
+fn add_args(list: &mut Seq<Text>, args: &[&str]) -> Result<(), NoMemory> {
+    let alloc = list.allocator();
     for arg in args {
         list.push(Text::of(alloc, arg.as_bytes())?)?;
     }
-    Ok(list)
+    Ok(())
 }
 
-/// What a look-up tells.
-pub(crate) fn told(
-    alloc: Global,
-    maps: &Maps,
-    row: &Row,
-    macros: &mut Macros,
-) -> Result<Text, Fail> {
+fn answer_of(alloc: Global, maps: &Maps, row: &Row) -> Result<Result<Found, MapFault>, NoMemory> {
     let name = Text::of(alloc, row.0.as_bytes())?;
     let key = Text::of(alloc, row.1.as_bytes())?;
-    let args = args_of(alloc, row.2)?;
-    shown(alloc, maps.lookup(&name, &key, &args, macros))
+    let mut args = Seq::new(alloc);
+    add_args(&mut args, row.2)?;
+    Ok(maps.lookup(&name, &key, &args, &mut Macros::new(alloc)))
 }
 
-fn shown(alloc: Global, answer: Result<Found, MapFault>) -> Result<Text, Fail> {
+fn show_answer(text: &mut Text, answer: &Result<Found, MapFault>) -> Result<(), NoMemory> {
     match answer {
-        Ok(Found::Value(value)) => Ok(found(alloc, &value)?),
-        Ok(Found::Absent) => Ok(Text::of(alloc, b"absent")?),
-        Err(MapFault::MapClass) => Ok(Text::of(alloc, b"error: MapClass")?),
-        Err(MapFault::NoSuchMap) => Ok(Text::of(alloc, b"error: NoSuchMap")?),
-        Err(MapFault::NoMemory) => Err(Fail::from("no memory")),
+        Ok(Found::Value(value)) => show_found(text, value),
+        Ok(Found::Absent) => text.extend(b"absent"),
+        Err(MapFault::MapClass) => text.extend(b"error: MapClass"),
+        Err(MapFault::NoSuchMap) => text.extend(b"error: NoSuchMap"),
+        Err(MapFault::NoMemory) => Err(NoMemory),
     }
 }
 
-fn found(alloc: Global, value: &Text) -> Result<Text, NoMemory> {
-    let mut text = Text::of(alloc, b"found: ")?;
-    text.extend(value.bytes())?;
-    Ok(text)
+fn show_found(text: &mut Text, value: &Text) -> Result<(), NoMemory> {
+    text.extend(b"found: ")?;
+    text.extend(value.bytes())
 }
 
-/// The place of the first row that isn't told so.
-pub(crate) fn wrong(alloc: Global, maps: &Maps, rows: &[Row]) -> Result<Option<usize>, Fail> {
-    for (place, row) in rows.iter().enumerate() {
-        let text = told(alloc, maps, row, &mut Macros::new(alloc))?;
-        if text.bytes() != row.3.as_bytes() {
-            return Ok(Some(place));
-        }
-    }
-    Ok(None)
+/// Whether a look-up tells what the row says.
+pub(crate) fn is_told(alloc: Global, maps: &Maps, row: &Row) -> Result<bool, NoMemory> {
+    let answer = answer_of(alloc, maps, row)?;
+    let mut text = Text::new(alloc);
+    show_answer(&mut text, &answer)?;
+    Ok(text.bytes() == row.3.as_bytes())
 }

@@ -1,9 +1,11 @@
 // Which rule comes next for a list of tokens, and what a ruleset keeps.
+use self::Step::{Copies, Counts, Grows, Next, Walks};
 use crate::sets::{Line, add_lines, rule_of, set_of};
-use crate::signs::{Broken, tokens_of};
-use mail_base::{Go, NoMemory, RuleSet, Seq, Token, TryCopy};
+use crate::signs::tokens_of;
+use mail_base::{Go, RuleSet, Seq, Token, TryCopy};
 use rule_index::next;
 use std::alloc::Global;
+use std::test::Fail;
 
 // Rules by number. Their anchors are the words a, b and A and, where no word stands, the first
 // token; `*` has none, and one with a `$&x` has none either.
@@ -17,7 +19,7 @@ const RULES: &[Line] = &[
     ("\"", Go::Next, ""),
 ];
 
-fn set(alloc: Global) -> Result<RuleSet, Broken> {
+fn set(alloc: Global) -> Result<RuleSet, Fail> {
     let mut rules = Seq::new(alloc);
     add_lines(&mut rules, RULES)?;
     Ok(set_of("1", &rules)?)
@@ -29,46 +31,6 @@ fn number_of(set: &RuleSet, from: u32, tokens: &Seq<Token>) -> Option<u32> {
         None => None,
     }
 }
-
-// The first number that is looked at, the tokens, and the number of the next candidate.
-type Candidate = (u32, &'static str, Option<u32>);
-
-fn is_next(alloc: Global, set: &RuleSet, row: &Candidate) -> Result<bool, NoMemory> {
-    let tokens = tokens_of(alloc, row.1)?;
-    Ok(number_of(set, row.0, &tokens) == row.2)
-}
-
-// The first place of a row that doesn't hold.
-fn wrong_row(alloc: Global, set: &RuleSet, rows: &[Candidate]) -> Result<Option<usize>, NoMemory> {
-    for (at, row) in rows.iter().enumerate() {
-        if !is_next(alloc, set, row)? {
-            return Ok(Some(at));
-        }
-    }
-    Ok(None)
-}
-
-const CANDIDATES: &[Candidate] = &[
-    (0, "a", Some(0)),
-    (0, "A", Some(0)),
-    (0, "x.a", Some(0)),
-    (0, "x", Some(1)),
-    (0, "", Some(1)),
-    (1, "a", Some(1)),
-    (2, "a", Some(3)),
-    (2, "b", Some(2)),
-    (2, "ba", Some(2)),
-    (2, ".", Some(4)),
-    (2, "", Some(4)),
-    (5, ".", Some(5)),
-    (5, "a.", Some(5)),
-    (5, "a", None),
-    (5, "q", None),
-    (5, "\"", Some(6)),
-    (6, ".", None),
-    (7, "a.b\"", None),
-    (u32::MAX, "a", None),
-];
 
 fn is_candidate(set: &RuleSet, number: u32, tokens: &Seq<Token>) -> bool {
     match set.rule(number) {
@@ -90,7 +52,6 @@ fn walked(set: &RuleSet, from: u32, tokens: &Seq<Token>) -> Option<u32> {
     None
 }
 
-// Whether the walk comes to the same rules, from each number.
 fn walks_so(set: &RuleSet, tokens: &Seq<Token>) -> bool {
     for from in 0..9 {
         if number_of(set, from, tokens) != walked(set, from, tokens) {
@@ -98,18 +59,6 @@ fn walks_so(set: &RuleSet, tokens: &Seq<Token>) -> bool {
         }
     }
     true
-}
-
-const WALKS: &[&str] = &["", "a", "B", ".", "\"", "ab", "q.", "A.b\"", "@"];
-
-// The first place of tokens with which the walk comes to another rule.
-fn wrong_walk(alloc: Global, set: &RuleSet) -> Result<Option<usize>, NoMemory> {
-    for (at, signs) in WALKS.iter().enumerate() {
-        if !walks_so(set, &tokens_of(alloc, signs)?) {
-            return Ok(Some(at));
-        }
-    }
-    Ok(None)
 }
 
 // How many items the left side of a rule has; 99 where it isn't there.
@@ -120,49 +69,99 @@ fn width(set: &RuleSet, number: u32) -> usize {
     }
 }
 
-const WIDTHS: &[(u32, usize)] = &[(0, 2), (1, 1), (2, 2), (5, 2), (6, 1), (7, 99)];
+static WIDTHS: [(u32, usize); 6] = [(0, 2), (1, 1), (2, 2), (5, 2), (6, 1), (7, 99)];
 
 fn has_widths(set: &RuleSet) -> bool {
-    for (number, items) in WIDTHS {
-        if width(set, *number) != *items {
+    for row in &WIDTHS {
+        if width(set, row.0) != row.1 {
             return false;
         }
     }
     set.count() == 7 && set.names().len() == 1
 }
 
-const MORE: &[Line] = &[("B", Go::Next, ""), ("+", Go::Next, "")];
+// What a set is asked, and what comes of it.
+enum Step {
+    // The first number that is looked at, the tokens, and the number of the next candidate.
+    Next(u32, &'static str, Option<u32>),
+    // A walk over all rules comes to the same ones for these tokens, from each number.
+    Walks(&'static str),
+    // A copy has the rules and the name.
+    Copies,
+    // It gets a rule with this left side.
+    Grows(&'static str),
+    // So many rules stand in it.
+    Counts(u32),
+}
 
-fn grow(alloc: Global, set: &mut RuleSet) -> Result<(), Broken> {
-    for line in MORE {
-        set.push(rule_of(alloc, line)?)?;
+static STEPS: [Step; 35] = [
+    Next(0, "a", Some(0)),
+    Next(0, "A", Some(0)),
+    Next(0, "x.a", Some(0)),
+    Next(0, "x", Some(1)),
+    Next(0, "", Some(1)),
+    Next(1, "a", Some(1)),
+    Next(2, "a", Some(3)),
+    Next(2, "b", Some(2)),
+    Next(2, "ba", Some(2)),
+    Next(2, ".", Some(4)),
+    Next(2, "", Some(4)),
+    Next(5, ".", Some(5)),
+    Next(5, "a.", Some(5)),
+    Next(5, "a", None),
+    Next(5, "q", None),
+    Next(5, "\"", Some(6)),
+    Next(6, ".", None),
+    Next(7, "a.b\"", None),
+    Next(u32::MAX, "a", None),
+    Walks(""),
+    Walks("a"),
+    Walks("B"),
+    Walks("."),
+    Walks("\""),
+    Walks("ab"),
+    Walks("q."),
+    Walks("A.b\""),
+    Walks("@"),
+    Copies,
+    Grows("B"),
+    Grows("+"),
+    Counts(9),
+    Next(5, "b", Some(7)),
+    Next(5, "x", Some(8)),
+    Next(8, "b", Some(8)),
+];
+
+fn is_next(
+    alloc: Global,
+    set: &RuleSet,
+    from: u32,
+    signs: &str,
+    wanted: Option<u32>,
+) -> Result<bool, Fail> {
+    Ok(number_of(set, from, &tokens_of(alloc, signs)?) == wanted)
+}
+
+fn grows(alloc: Global, set: &mut RuleSet, left: &'static str) -> Result<bool, Fail> {
+    set.push(rule_of(alloc, &(left, Go::Next, ""))?)?;
+    Ok(true)
+}
+
+fn does(alloc: Global, set: &mut RuleSet, step: &Step) -> Result<bool, Fail> {
+    match step {
+        Next(from, signs, wanted) => is_next(alloc, set, *from, signs, *wanted),
+        Walks(signs) => Ok(walks_so(set, &tokens_of(alloc, signs)?)),
+        Copies => Ok(has_widths(&set.copy()?)),
+        Grows(left) => grows(alloc, set, left),
+        Counts(rules) => Ok(set.count() == *rules),
     }
-    Ok(())
-}
-
-// In the set with two rules more.
-const GROWN: &[Candidate] = &[(5, "b", Some(7)), (5, "x", Some(8)), (8, "b", Some(8))];
-
-/// What is wrong of a set: a candidate, a walk, whether its copy keeps the rules, how many it has
-/// once it has grown, and a candidate then.
-type Wrong = (Option<usize>, Option<usize>, bool, u32, Option<usize>);
-
-fn wrong_of(alloc: Global, set: &mut RuleSet) -> Result<Wrong, Broken> {
-    let candidate = wrong_row(alloc, set, CANDIDATES)?;
-    let walk = wrong_walk(alloc, set)?;
-    let is_kept = has_widths(&set.copy()?);
-    grow(alloc, set)?;
-    let grown = wrong_row(alloc, set, GROWN)?;
-    Ok((candidate, walk, is_kept, set.count(), grown))
-}
-
-fn wrong(alloc: Global) -> Result<Wrong, Broken> {
-    let mut set = set(alloc)?;
-    wrong_of(alloc, &mut set)
 }
 
 #[test]
-fn a_set_gives_the_next_candidate_and_keeps_its_rules(rt: HostRuntime) -> Result<(), Broken> {
-    assert_eq!(rt; wrong(rt.alloc())?, (None, None, true, 9, None));
+fn a_set_gives_the_next_candidate_and_keeps_its_rules(rt: HostRuntime) -> Result<(), Fail> {
+    let mut set = set(rt.alloc())?;
+    for (at, step) in STEPS.iter().enumerate() {
+        assert!(rt; does(rt.alloc(), &mut set, step)?, "step {at}");
+    }
     Ok(())
 }

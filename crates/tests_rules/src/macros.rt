@@ -1,10 +1,11 @@
+use self::Call::{Expand, ExpandRule};
 use cf_macros::{ExpandFault, Form, date, expand, expand_rule};
 use mail_base::{Macros, NoMemory, Text};
 use std::alloc::Global;
 
 // Eleven macros a to k, each of which names the next, ten o to y of which each names the next ten
 // times, and others.
-const SETTINGS: &[(&str, &str)] = &[
+static SETTINGS: [(&str, &str); 33] = [
     ("a", "$b"),
     ("b", "$c"),
     ("c", "$d"),
@@ -40,15 +41,16 @@ const SETTINGS: &[(&str, &str)] = &[
     ("G", "$&{S"),
 ];
 
-fn set(alloc: Global, macros: &mut Macros, name: &str, value: &str) -> Result<(), NoMemory> {
+fn set(macros: &mut Macros, name: &str, value: &str) -> Result<(), NoMemory> {
+    let alloc = macros.values().allocator();
     let name = Text::of(alloc, name.as_bytes())?;
     macros.set(&name, &Text::of(alloc, value.as_bytes())?)
 }
 
 fn macros_of(alloc: Global) -> Result<Macros, NoMemory> {
     let mut macros = Macros::new(alloc);
-    for (name, value) in SETTINGS {
-        set(alloc, &mut macros, name, value)?;
+    for row in &SETTINGS {
+        set(&mut macros, row.0, row.1)?;
     }
     Ok(macros)
 }
@@ -62,13 +64,13 @@ enum Call {
 
 fn expansion(alloc: Global, call: Call, text: &Text, macros: &Macros) -> Result<Text, ExpandFault> {
     match call {
-        Call::Expand => expand(alloc, text, macros),
-        Call::ExpandRule => expand_rule(alloc, text, macros),
+        Expand => expand(alloc, text, macros),
+        ExpandRule => expand_rule(alloc, text, macros),
     }
 }
 
-/// A text, and what it gives or how it is refused.
-type Case = (&'static str, Result<&'static str, ExpandFault>);
+/// A call, a text, and what it gives or how it is refused.
+type Case = (Call, &'static str, Result<&'static str, ExpandFault>);
 
 fn is_wanted(given: &Result<Text, ExpandFault>, wanted: &Result<&str, ExpandFault>) -> bool {
     match (given, wanted) {
@@ -78,75 +80,54 @@ fn is_wanted(given: &Result<Text, ExpandFault>, wanted: &Result<&str, ExpandFaul
     }
 }
 
-fn gives(alloc: Global, call: Call, macros: &Macros, case: &Case) -> Result<bool, NoMemory> {
-    let text = Text::of(alloc, case.0.as_bytes())?;
-    Ok(is_wanted(&expansion(alloc, call, &text, macros), &case.1))
+fn gives(alloc: Global, macros: &Macros, case: &Case) -> Result<bool, NoMemory> {
+    let text = Text::of(alloc, case.1.as_bytes())?;
+    Ok(is_wanted(&expansion(alloc, case.0, &text, macros), &case.2))
 }
 
-/// A call, and cases.
-type Table = (Call, &'static [Case]);
-
-const VALUES: &[Case] = &[("$?Sa$|b$.$T", Ok("a$1aacdb"))];
-
-const REFUSALS: &[Case] = &[
-    ("${S", Err(ExpandFault::Unclosed(1))),
-    ("ab$&{S", Err(ExpandFault::Unclosed(4))),
-    ("a$?Sb", Err(ExpandFault::Unclosed(1))),
-    ("a$?{Sb", Err(ExpandFault::Unclosed(1))),
-    ("$?Sa$|b${x", Err(ExpandFault::Unclosed(0))),
-    ("$?Sa$.$?Ub$?Sc$.", Err(ExpandFault::Unclosed(6))),
-    ("abc$O", Err(ExpandFault::Unclosed(1))),
-    ("$B", Err(ExpandFault::Unclosed(3))),
-    ("$a", Err(ExpandFault::Deep)),
-    ("$?ax$.", Err(ExpandFault::Deep)),
-    ("$a${", Err(ExpandFault::Deep)),
-];
-
-// Sides of rules: `$$` and `$&` stay, in the side, in values and in parts of conditionals.
-const SIDES: &[Case] = &[
-    ("a$&", Ok("a$&")),
-    ("$&+$S", Ok("$&+set")),
-    ("$?S$$1$|$2$.$T", Ok("$$1$$1a$&{y}b")),
-];
-
-const SIDE_REFUSALS: &[Case] = &[
-    ("${S", Err(ExpandFault::Unclosed(1))),
-    ("ab$&{S", Err(ExpandFault::Unclosed(4))),
-    ("ab$$${S", Err(ExpandFault::Unclosed(5))),
-    ("a$?Sb", Err(ExpandFault::Unclosed(1))),
-    ("a$?{Sb", Err(ExpandFault::Unclosed(1))),
-    ("$&m$?Sb", Err(ExpandFault::Unclosed(3))),
-    ("$?S$&{a$.", Err(ExpandFault::Unclosed(0))),
-    ("xyz$G", Err(ExpandFault::Unclosed(2))),
-    ("$B", Err(ExpandFault::Unclosed(3))),
-    ("$O", Err(ExpandFault::Unclosed(1))),
-    ("$a", Err(ExpandFault::Deep)),
-    ("$o", Err(ExpandFault::Large)),
-    ("$?ox$.", Err(ExpandFault::Large)),
-];
-
-const BOMBS: &[Case] = &[
-    ("$o", Err(ExpandFault::Large)),
-    ("$?ox$.", Err(ExpandFault::Large)),
-];
-
-/// A value; what is refused in reading order, a macro bomb at its limit; sides, which keep their
-/// late macros and dollars, and what is refused of them.
-const TABLES: &[Table] = &[
-    (Call::Expand, VALUES),
-    (Call::Expand, REFUSALS),
-    (Call::Expand, BOMBS),
-    (Call::ExpandRule, SIDES),
-    (Call::ExpandRule, SIDE_REFUSALS),
+static CASES: [Case; 30] = [
+    // A value.
+    (Expand, "$?Sa$|b$.$T", Ok("a$1aacdb")),
+    // What is refused in reading order.
+    (Expand, "${S", Err(ExpandFault::Unclosed(1))),
+    (Expand, "ab$&{S", Err(ExpandFault::Unclosed(4))),
+    (Expand, "a$?Sb", Err(ExpandFault::Unclosed(1))),
+    (Expand, "a$?{Sb", Err(ExpandFault::Unclosed(1))),
+    (Expand, "$?Sa$|b${x", Err(ExpandFault::Unclosed(0))),
+    (Expand, "$?Sa$.$?Ub$?Sc$.", Err(ExpandFault::Unclosed(6))),
+    (Expand, "abc$O", Err(ExpandFault::Unclosed(1))),
+    (Expand, "$B", Err(ExpandFault::Unclosed(3))),
+    (Expand, "$a", Err(ExpandFault::Deep)),
+    (Expand, "$?ax$.", Err(ExpandFault::Deep)),
+    (Expand, "$a${", Err(ExpandFault::Deep)),
+    // A macro bomb at its limit.
+    (Expand, "$o", Err(ExpandFault::Large)),
+    (Expand, "$?ox$.", Err(ExpandFault::Large)),
+    // Sides of rules: `$$` and `$&` stay, in the side, in values and in parts of conditionals.
+    (ExpandRule, "a$&", Ok("a$&")),
+    (ExpandRule, "$&+$S", Ok("$&+set")),
+    (ExpandRule, "$?S$$1$|$2$.$T", Ok("$$1$$1a$&{y}b")),
+    // What is refused of sides.
+    (ExpandRule, "${S", Err(ExpandFault::Unclosed(1))),
+    (ExpandRule, "ab$&{S", Err(ExpandFault::Unclosed(4))),
+    (ExpandRule, "ab$$${S", Err(ExpandFault::Unclosed(5))),
+    (ExpandRule, "a$?Sb", Err(ExpandFault::Unclosed(1))),
+    (ExpandRule, "a$?{Sb", Err(ExpandFault::Unclosed(1))),
+    (ExpandRule, "$&m$?Sb", Err(ExpandFault::Unclosed(3))),
+    (ExpandRule, "$?S$&{a$.", Err(ExpandFault::Unclosed(0))),
+    (ExpandRule, "xyz$G", Err(ExpandFault::Unclosed(2))),
+    (ExpandRule, "$B", Err(ExpandFault::Unclosed(3))),
+    (ExpandRule, "$O", Err(ExpandFault::Unclosed(1))),
+    (ExpandRule, "$a", Err(ExpandFault::Deep)),
+    (ExpandRule, "$o", Err(ExpandFault::Large)),
+    (ExpandRule, "$?ox$.", Err(ExpandFault::Large)),
 ];
 
 #[test]
 fn texts_and_sides_by_the_first_construct(rt: HostRuntime) -> Result<(), NoMemory> {
     let macros = macros_of(rt.alloc())?;
-    for (call, cases) in TABLES {
-        for case in *cases {
-            assert!(rt; gives(rt.alloc(), *call, &macros, case)?, "{}", case.0);
-        }
+    for (at, case) in CASES.iter().enumerate() {
+        assert!(rt; gives(rt.alloc(), &macros, case)?, "row {at}");
     }
     Ok(())
 }
@@ -162,20 +143,19 @@ type Long = (
 );
 
 // Ten thousand references, to the empty macro, and no more; a mebibyte, in a test, and no more.
-const LONG: &[Long] = &[
+static LONG: [Long; 4] = [
     ("", "$E", 10_000, "", Ok(0)),
     ("", "$E", 10_001, "", Err(ExpandFault::Large)),
     ("$?x", "b", 1_048_576, "$.", Ok(1_048_576)),
     ("$?x", "b", 1_048_577, "$.", Err(ExpandFault::Large)),
 ];
 
-fn long_text(alloc: Global, row: &Long) -> Result<Text, NoMemory> {
-    let mut text = Text::of(alloc, row.0.as_bytes())?;
+fn add_long(text: &mut Text, row: &Long) -> Result<(), NoMemory> {
+    text.extend(row.0.as_bytes())?;
     for _ in 0..row.2 {
         text.extend(row.1.as_bytes())?;
     }
-    text.extend(row.3.as_bytes())?;
-    Ok(text)
+    text.extend(row.3.as_bytes())
 }
 
 fn is_long(given: &Result<Text, ExpandFault>, wanted: &Result<usize, ExpandFault>) -> bool {
@@ -187,14 +167,15 @@ fn is_long(given: &Result<Text, ExpandFault>, wanted: &Result<usize, ExpandFault
 }
 
 fn is_expanded(alloc: Global, macros: &Macros, row: &Long) -> Result<bool, NoMemory> {
-    let text = long_text(alloc, row)?;
+    let mut text = Text::new(alloc);
+    add_long(&mut text, row)?;
     Ok(is_long(&expand(alloc, &text, macros), &row.4))
 }
 
 #[test]
 fn ten_thousand_references_and_a_mebibyte(rt: HostRuntime) -> Result<(), NoMemory> {
     let macros = macros_of(rt.alloc())?;
-    for row in LONG {
+    for row in &LONG {
         assert!(rt; is_expanded(rt.alloc(), &macros, row)?, "{}", row.2);
     }
     Ok(())
@@ -205,7 +186,7 @@ type DateRow = (u64, &'static str, &'static str, &'static str);
 
 // Moments and their forms Mail, Unix and Short, as GNU date prints them by `date -u -d @MOMENT`
 // with `+%a, %-d %b %Y %H:%M:%S +0000`, `+%a %b %e %H:%M:%S %Y` and `+%Y%m%d%H%M`.
-const MOMENTS: &[DateRow] = &[
+static MOMENTS: [DateRow; 13] = [
     (
         0,
         "Thu, 1 Jan 1970 00:00:00 +0000",
@@ -302,7 +283,7 @@ fn are_dates(alloc: Global, row: &DateRow) -> Result<bool, NoMemory> {
 
 #[test]
 fn dates_in_three_forms(rt: HostRuntime) -> Result<(), NoMemory> {
-    for row in MOMENTS {
+    for row in &MOMENTS {
         assert!(rt; are_dates(rt.alloc(), row)?, "{}", row.0);
     }
     Ok(())

@@ -1,10 +1,9 @@
 // Maps as no line of address test mode asks them: without a key, with members of a sequence that no
 // K line can name, and by the address of a host; and the files that maps want.
-use crate::asking::{Line, Row, config_of, is_text, maps_of, wrong};
-use mail_base::{NoMemory, Text};
+use crate::asking::{Line, Row, config_of, is_text, is_told, maps_of};
+use mail_base::{Config, NoMemory, Text};
 use map_tables::{Maps, wanted};
 use std::alloc::Global;
-use std::test::Fail;
 
 // The map `host` stands at place 0.
 static LINES: [Line; 15] = [
@@ -62,13 +61,6 @@ static ROWS: [Row; 22] = [
     ("", "k", &[], "error: NoSuchMap"),
 ];
 
-#[test]
-fn maps_are_asked(rt: HostRuntime) -> Result<(), Fail> {
-    let maps = maps_of(rt.alloc(), &LINES, &FILES, HOSTS)?;
-    assert_eq!(rt; wrong(rt.alloc(), &maps, &ROWS)?, None);
-    Ok(())
-}
-
 // A name and its address.
 type Address = (&'static str, Option<&'static str>);
 
@@ -87,8 +79,11 @@ fn has_address(alloc: Global, maps: &Maps, row: &Address) -> Result<bool, NoMemo
 }
 
 #[test]
-fn addresses_are_found(rt: HostRuntime) -> Result<(), Fail> {
-    let maps = maps_of(rt.alloc(), &[], &[], HOSTS)?;
+fn maps_are_asked_and_addresses_found(rt: HostRuntime) -> Result<(), NoMemory> {
+    let maps = maps_of(rt.alloc(), &LINES, &FILES, HOSTS)?;
+    for (at, row) in ROWS.iter().enumerate() {
+        assert!(rt; is_told(rt.alloc(), &maps, row)?, "row {at}");
+    }
     for row in &ADDRESSES {
         assert!(rt; has_address(rt.alloc(), &maps, row)?, "{}", row.0);
     }
@@ -105,22 +100,26 @@ static WANTED: [Line; 6] = [
 ];
 
 // The files that are wanted, one a line, with `-o ` before one that may be absent.
-fn wanted_lines(alloc: Global) -> Result<Vec<u8>, NoMemory> {
-    let config = config_of(alloc, &WANTED)?;
-    let mut text = Vec::new(alloc);
-    for file in wanted(alloc, &config)?.items() {
+fn show_wanted(text: &mut Text, config: &Config) -> Result<(), NoMemory> {
+    for file in wanted(text.allocator(), config)?.items() {
         if file.optional {
-            text.extend_from_slice(b"-o ")?;
+            text.extend(b"-o ")?;
         }
-        text.extend_from_slice(file.name.bytes())?;
+        text.extend(file.name.bytes())?;
         text.push(b'\n')?;
     }
-    Ok(text)
+    Ok(())
+}
+
+fn is_wanted(alloc: Global, files: &[u8]) -> Result<bool, NoMemory> {
+    let config = config_of(alloc, &WANTED)?;
+    let mut text = Text::new(alloc);
+    show_wanted(&mut text, &config)?;
+    Ok(text.bytes() == files)
 }
 
 #[test]
-fn files_are_wanted_in_order(rt: HostRuntime) -> Result<(), Fail> {
-    let files = wanted_lines(rt.alloc())?;
-    assert_eq!(rt; files.as_slice(), b"/one\n-o /two\n/one\n".as_slice());
+fn files_are_wanted_in_order(rt: HostRuntime) -> Result<(), NoMemory> {
+    assert!(rt; is_wanted(rt.alloc(), b"/one\n-o /two\n/one\n")?);
     Ok(())
 }

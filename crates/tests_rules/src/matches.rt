@@ -1,8 +1,10 @@
 // Which match a left side takes, and what its items take in it.
-use crate::signs::{Broken, are_signs, pattern_of, repeated, tokens_of};
+use self::Wanted::{Covers, Gives, Takes};
+use crate::signs::{are_signs, pattern_of, repeated, tokens_of};
 use mail_base::{Classes, Item, Member, NoMemory, Pattern, Seq, Text, Token, mask_of};
 use rule_match::{Cuts, find, find_by_trial, lists_wanted};
 use std::alloc::Global;
+use std::test::Fail;
 
 // Where the part of each item begins, and how long it is.
 type Pairs = &'static [(usize, usize)];
@@ -30,8 +32,8 @@ fn is_covered(pattern: &Pattern, tokens: &Seq<Token>) -> bool {
     wanted & mask_of(tokens.items()) == wanted
 }
 
-// Whether the search and the trial of all lengths both take these cuts, or both none, where no class
-// and no macro counts. What matches has all that is wanted of it.
+// Whether the search and the trial of all lengths both take these cuts, or both none, where no
+// class and no macro counts. What matches has all that is wanted of it.
 fn takes(pattern: &Pattern, tokens: &Seq<Token>, wanted: Option<Pairs>) -> bool {
     let classes = Classes::new(tokens.allocator());
     let late = Seq::new(tokens.allocator());
@@ -41,87 +43,76 @@ fn takes(pattern: &Pattern, tokens: &Seq<Token>, wanted: Option<Pairs>) -> bool 
         && is_wanted(&find_by_trial(pattern, tokens, &classes, &late), wanted)
 }
 
-// A left side, tokens, and their match.
-type Row = (&'static str, &'static str, Option<Pairs>);
-
-const LEAST: &[Row] = &[
-    ("*.*", "a.b.c", Some(&[(0, 1), (2, 3)])),
-    ("*ab*b", "aabab", Some(&[(0, 1), (3, 1)])),
-    ("q", "\"", None),
-    ("*.b", "a.c", None),
-    ("", "", Some(&[])),
-    ("", "a", None),
-];
-
-fn is_least(alloc: Global, row: &Row) -> Result<bool, Broken> {
-    let pattern = pattern_of(alloc, row.0)?;
-    Ok(takes(&pattern, &tokens_of(alloc, row.1)?, row.2))
-}
-
-#[test]
-fn takes_the_least_match(rt: HostRuntime) -> Result<(), Broken> {
-    for row in LEAST {
-        assert!(rt; is_least(rt.alloc(), row)?, "{} on {}", row.0, row.1);
-    }
-    Ok(())
-}
-
-// A left side, tokens, and whether these have all that it wants: its own tokens, each two of them
-// that stand side by side, and its ends, or nothing where it has a `$&x`.
-const COVERED: &[(&str, &str, bool)] = &[
-    ("*a*b", "ab", true),
-    ("*a*b", "Acb", true),
-    ("*a*b", "ba", false),
-    ("*a*a", "a", true),
-    ("*.a*.", "a..", false),
-    ("a", "\"", false),
-    ("*@<", "<@", false),
-    ("*<@*", "a<@b", true),
-    ("<@*", "a<@b", false),
-    ("-", "", true),
-    ("b&a", "", true),
-    ("*b*", "", false),
-];
-
-fn is_covered_so(alloc: Global, row: &(&str, &str, bool)) -> Result<bool, Broken> {
-    let pattern = pattern_of(alloc, row.0)?;
-    Ok(is_covered(&pattern, &tokens_of(alloc, row.1)?) == row.2)
-}
-
-#[test]
-fn wants_tokens_neighbours_and_ends(rt: HostRuntime) -> Result<(), Broken> {
-    for row in COVERED {
-        assert!(rt; is_covered_so(rt.alloc(), row)?, "{} on {}", row.0, row.1);
-    }
-    Ok(())
-}
-
-// What `$n` stands for in the match of `$-.$#$*` with `a.$#bc`, by n; nothing where none is.
-const PIECES: &[(u8, &str)] = &[(1, "a"), (2, "bc"), (3, ""), (0, "")];
-
-fn wrong_piece(pattern: &Pattern, tokens: &Seq<Token>) -> Result<Option<u8>, Broken> {
+fn gives(pattern: &Pattern, tokens: &Seq<Token>, number: u8, wanted: &str) -> bool {
+    let classes = Classes::new(tokens.allocator());
     let late = Seq::new(tokens.allocator());
     if lists_wanted(pattern) != late.len() {
-        return Err(Broken::NotPlain);
+        return false;
     }
-    let classes = Classes::new(tokens.allocator());
-    let cuts = find(pattern, tokens, &classes, &late).ok_or(Broken::NoMatch)?;
-    for (number, wanted) in PIECES {
-        if !are_signs(cuts.piece(tokens, *number), wanted) {
-            return Ok(Some(*number));
-        }
+    match find(pattern, tokens, &classes, &late) {
+        Some(cuts) => are_signs(cuts.piece(tokens, number), wanted),
+        None => false,
     }
-    Ok(None)
 }
 
-fn wrong(alloc: Global) -> Result<Option<u8>, Broken> {
-    let pattern = pattern_of(alloc, "-.#*")?;
-    wrong_piece(&pattern, &tokens_of(alloc, "a.#bc")?)
+// What is wanted of a left side and tokens: a match or none; whether these have all that it wants;
+// or what `$n` stands for in their match.
+enum Wanted {
+    Takes(Option<Pairs>),
+    Covers(bool),
+    Gives(u8, &'static str),
+}
+
+// A left side, tokens, and what is wanted of them.
+type Row = (&'static str, &'static str, Wanted);
+
+static ROWS: [Row; 22] = [
+    // The least match.
+    ("*.*", "a.b.c", Takes(Some(&[(0, 1), (2, 3)]))),
+    ("*ab*b", "aabab", Takes(Some(&[(0, 1), (3, 1)]))),
+    ("q", "\"", Takes(None)),
+    ("*.b", "a.c", Takes(None)),
+    ("", "", Takes(Some(&[]))),
+    ("", "a", Takes(None)),
+    // A left side wants its own tokens, each two of them that stand side by side, and its ends, or
+    // nothing where it has a `$&x`.
+    ("*a*b", "ab", Covers(true)),
+    ("*a*b", "Acb", Covers(true)),
+    ("*a*b", "ba", Covers(false)),
+    ("*a*a", "a", Covers(true)),
+    ("*.a*.", "a..", Covers(false)),
+    ("a", "\"", Covers(false)),
+    ("*@<", "<@", Covers(false)),
+    ("*<@*", "a<@b", Covers(true)),
+    ("<@*", "a<@b", Covers(false)),
+    ("-", "", Covers(true)),
+    ("b&a", "", Covers(true)),
+    ("*b*", "", Covers(false)),
+    // Nothing stands for a `$n` that isn't there.
+    ("-.#*", "a.#bc", Gives(1, "a")),
+    ("-.#*", "a.#bc", Gives(2, "bc")),
+    ("-.#*", "a.#bc", Gives(3, "")),
+    ("-.#*", "a.#bc", Gives(0, "")),
+];
+
+fn does(pattern: &Pattern, tokens: &Seq<Token>, wanted: &Wanted) -> bool {
+    match wanted {
+        Takes(pairs) => takes(pattern, tokens, *pairs),
+        Covers(are_covered) => is_covered(pattern, tokens) == *are_covered,
+        Gives(number, signs) => gives(pattern, tokens, *number, signs),
+    }
+}
+
+fn is_so(alloc: Global, row: &Row) -> Result<bool, Fail> {
+    let pattern = pattern_of(alloc, row.0)?;
+    Ok(does(&pattern, &tokens_of(alloc, row.1)?, &row.2))
 }
 
 #[test]
-fn gives_the_pieces(rt: HostRuntime) -> Result<(), Broken> {
-    assert_eq!(rt; wrong(rt.alloc())?, None);
+fn takes_the_least_match_wants_tokens_and_gives_pieces(rt: HostRuntime) -> Result<(), Fail> {
+    for (at, row) in ROWS.iter().enumerate() {
+        assert!(rt; is_so(rt.alloc(), row)?, "row {at}");
+    }
     Ok(())
 }
 
@@ -142,14 +133,14 @@ fn classes_of(alloc: Global) -> Result<Classes, NoMemory> {
 }
 
 // A class, and whatever comes behind it.
-fn class_first(alloc: Global) -> Result<Pattern, Broken> {
+fn class_first(alloc: Global) -> Result<Pattern, Fail> {
     let mut items = Seq::new(alloc);
     items.push(Item::InClass(Text::of(alloc, b"c")?))?;
     items.push(Item::Any)?;
-    Pattern::of(items).ok_or(Broken::ManySigns)
+    Ok(Pattern::of(items).ok_or("a side with too many items")?)
 }
 
-fn taken_of_many(alloc: Global) -> Result<bool, Broken> {
+fn taken_of_many(alloc: Global) -> Result<bool, Fail> {
     let pattern = class_first(alloc)?;
     let tokens = repeated(alloc, b'a', 2100)?;
     let late = Seq::new(alloc);
@@ -164,7 +155,7 @@ fn taken_of_many(alloc: Global) -> Result<bool, Broken> {
 
 // More tokens than a row of bits has places, and than a list of a run has.
 #[test]
-fn takes_a_phrase_of_many_tokens(rt: HostRuntime) -> Result<(), Broken> {
+fn takes_a_phrase_of_many_tokens(rt: HostRuntime) -> Result<(), Fail> {
     assert!(rt; taken_of_many(rt.alloc())?);
     Ok(())
 }

@@ -1,14 +1,11 @@
 // Rules written as a configuration has them.
 use addr_tokens::typed_tokens;
-use mail_base::{
-    Go, Item, NoMemory, Pattern, Piece, Rule, RuleSet, Seq, Step, Template, Text, Token,
-};
-use rule_index::build;
+use mail_base::{Go, Item, NoMemory, Pattern, Piece, Rule, Seq, Step, Template, Text, Token};
 use std::alloc::Global;
 use std::test::Fail;
 
-/// A case, a ruleset, and a rule of it: its left side, what comes behind it, and its right side. Both sides
-/// are typed, with `$*`, `$+` and `$-`, `$1` to `$3` and `$&h`.
+/// A case, a ruleset, and a rule of it: its left side, what comes behind it, and its right side.
+/// Both sides are typed, with `$*`, `$+` and `$-`, `$1` to `$3` and `$&h`.
 pub(crate) type Line = (usize, &'static str, &'static str, Go, &'static str);
 
 fn tokens_of(alloc: Global, side: &str) -> Result<Seq<Token>, Fail> {
@@ -82,11 +79,4 @@ pub(crate) fn rules_of(
         }
     }
     Ok(rules)
-}
-
-/// A ruleset of one name.
-pub(crate) fn set_of(alloc: Global, name: &str, rules: &Seq<Rule>) -> Result<RuleSet, NoMemory> {
-    let mut names = Seq::new(alloc);
-    names.push(Text::of(alloc, name.as_bytes())?)?;
-    Ok(RuleSet::of(names, build(rules)?))
 }

@@ -1,16 +1,11 @@
 // The configuration in which addresses are routed, but for its rulesets.
-use crate::route_rules::{Line, rules_of, set_of};
+use crate::route_rules::{Line, rules_of};
+use crate::sets::set_of;
+use crate::world::World;
 use mail_base::{Config, Mailer, NoMemory, Seq, Text};
 use map_tables::Maps;
 use std::alloc::Global;
 use std::test::Fail;
-
-/// A configuration and its maps.
-#[derive(Drop)]
-pub(crate) struct World {
-    pub config: Config,
-    pub maps: Maps,
-}
 
 // A mailer's name, path, flags, and the sets of its fields S and R.
 type Fields = (
@@ -88,7 +83,7 @@ fn add_sets(alloc: Global, config: &mut Config, lines: &[Line], case: usize) -> 
     for name in &NAMES {
         let rules = rules_of(alloc, lines, case, name)?;
         if !rules.is_empty() || matches!(*name, "in" | "out" | "empty") {
-            config.book.push(set_of(alloc, name, &rules)?)?;
+            config.book.push(set_of(name, &rules)?)?;
         }
     }
     Ok(())

@@ -1,11 +1,12 @@
 // What a run of a ruleset ends with, and the sets that are found.
 use self::Tokens::{Signs, Words};
 use crate::sets::{Line, add_lines, set_of};
-use crate::signs::{Broken, are_all, are_signs, repeated, tokens_of};
+use crate::signs::{are_all, are_signs, repeated, tokens_of};
 use crate::world::{World, world_of};
 use mail_base::{Book, Config, Go, NoMemory, Seq, Text, Token};
 use ruleset_run::{Ran, RunFault, run};
 use std::alloc::Global;
+use std::test::Fail;
 
 // Tokens: by signs, or so many words.
 #[derive(Clone, Copy)]
@@ -28,7 +29,7 @@ enum End {
     BadScan,
 }
 
-fn add(alloc: Global, book: &mut Book, name: &str, lines: &[Line]) -> Result<(), Broken> {
+fn add(alloc: Global, book: &mut Book, name: &str, lines: &[Line]) -> Result<(), Fail> {
     let mut rules = Seq::new(alloc);
     add_lines(&mut rules, lines)?;
     Ok(book.push(set_of(name, &rules)?)?)
@@ -37,7 +38,7 @@ fn add(alloc: Global, book: &mut Book, name: &str, lines: &[Line]) -> Result<(),
 // Rulesets by their names.
 type Sets = &'static [(&'static str, &'static [Line])];
 
-fn add_sets(alloc: Global, config: &mut Config, sets: Sets) -> Result<(), Broken> {
+fn add_sets(alloc: Global, config: &mut Config, sets: Sets) -> Result<(), Fail> {
     for (name, lines) in sets {
         add(alloc, &mut config.book, name, lines)?;
     }
@@ -85,7 +86,7 @@ fn is_fault(fault: &RunFault, end: End) -> bool {
 // The name of the set that runs, what it runs over, and what the run ends with.
 type Run = (&'static str, Tokens, End);
 
-fn ends_so(alloc: Global, world: &World, row: &Run) -> Result<bool, Broken> {
+fn ends_so(alloc: Global, world: &World, row: &Run) -> Result<bool, Fail> {
     let set = Text::of(alloc, row.0.as_bytes())?;
     let tokens = list_of(alloc, row.1)?;
     let given = run(
@@ -99,21 +100,11 @@ fn ends_so(alloc: Global, world: &World, row: &Run) -> Result<bool, Broken> {
     Ok(is_end(&given, row.2))
 }
 
-// The first place of a run that ends otherwise.
-fn wrong_of(alloc: Global, world: &World, rows: &[Run]) -> Result<Option<usize>, Broken> {
-    for (at, row) in rows.iter().enumerate() {
-        if !ends_so(alloc, world, row)? {
-            return Ok(Some(at));
-        }
-    }
-    Ok(None)
-}
-
-// The first place of a run that ends otherwise, in a configuration with these sets.
-fn wrong(alloc: Global, sets: Sets, rows: &[Run]) -> Result<Option<usize>, Broken> {
+// A configuration with these sets.
+fn world_with(alloc: Global, sets: Sets) -> Result<World, Fail> {
     let mut world = world_of(alloc)?;
     add_sets(alloc, &mut world.config, sets)?;
-    wrong_of(alloc, &world, rows)
+    Ok(world)
 }
 
 // Rules in whose set s a hundred applications of one rule are ten thousand in all.
@@ -124,7 +115,7 @@ const TENS: &[Line] = &[("*", Go::Next, ">u1"); 9];
 const ONES: &[Line] = &[("*", Go::Next, "1"); 10];
 
 // What each end tells besides its name: the list as it is written, its work, and what wasn't found.
-const CASES: &[(Sets, &[Run])] = &[
+static CASES: [(Sets, &[Run]); 3] = [
     (
         &[
             ("Set", &[("-:+", Go::Return, "2@1")]),
@@ -181,9 +172,12 @@ const CASES: &[(Sets, &[Run])] = &[
 ];
 
 #[test]
-fn runs_end_as_their_rules_say(rt: HostRuntime) -> Result<(), Broken> {
-    for (at, (sets, rows)) in CASES.iter().enumerate() {
-        assert_eq!(rt; wrong(rt.alloc(), sets, rows)?, None, "case {at}");
+fn runs_end_as_their_rules_say(rt: HostRuntime) -> Result<(), Fail> {
+    for (case, (sets, rows)) in CASES.iter().enumerate() {
+        let world = world_with(rt.alloc(), sets)?;
+        for (at, row) in rows.iter().enumerate() {
+            assert!(rt; ends_so(rt.alloc(), &world, row)?, "case {case}, run {at}");
+        }
     }
     Ok(())
 }

@@ -1,7 +1,8 @@
 // The senders that mailers are given, and addresses behind the sets of a mailer.
 use crate::route_rules::Line;
 use crate::route_shown::put_cause;
-use crate::route_world::{World, world_of};
+use crate::route_world::world_of;
+use crate::world::World;
 use addr_route::{Rewritten, recipient_sets, rewrite, sender_for, sender_sets};
 use mail_base::{Go, Mailer, NoMemory, Seq, Text};
 use std::alloc::Global;
@@ -65,52 +66,56 @@ fn put_rewritten(out: &mut Text, rewritten: &Rewritten) -> Result<(), NoMemory> 
     }
 }
 
-fn behind(
-    alloc: Global,
+fn put_behind(
+    out: &mut Text,
     world: &World,
     sets: &Seq<Text>,
     address: &Text,
-) -> Result<Text, NoMemory> {
+) -> Result<(), NoMemory> {
     let config = &world.config;
+    let alloc = out.allocator();
     let rewritten = rewrite(alloc, config, &world.maps, &config.macros, sets, address)?;
-    let mut out = Text::new(alloc);
-    put_rewritten(&mut out, &rewritten)?;
-    Ok(out)
+    put_rewritten(out, &rewritten)
 }
 
-fn sender(alloc: Global, world: &World, mailer: &Mailer, address: &Text) -> Result<Text, NoMemory> {
+fn is_behind(
+    world: &World,
+    sets: &Seq<Text>,
+    address: &Text,
+    wanted: &str,
+) -> Result<bool, NoMemory> {
+    let mut out = Text::new(address.allocator());
+    put_behind(&mut out, world, sets, address)?;
+    Ok(out.bytes() == wanted.as_bytes())
+}
+
+fn is_sender(
+    world: &World,
+    mailer: &Mailer,
+    address: &Text,
+    wanted: &str,
+) -> Result<bool, NoMemory> {
     let config = &world.config;
-    sender_for(alloc, config, &world.maps, &config.macros, mailer, address)
+    let alloc = address.allocator();
+    let given = sender_for(alloc, config, &world.maps, &config.macros, mailer, address)?;
+    Ok(given.bytes() == wanted.as_bytes())
 }
 
-fn is_sent(alloc: Global, world: &World, mailer: &Mailer, row: &Row) -> Result<bool, NoMemory> {
-    let address = Text::of(alloc, row.1.as_bytes())?;
-    let given = sender(alloc, world, mailer, &address)?;
-    Ok(given.bytes() == row.2.as_bytes())
-}
-
-fn is_tried(alloc: Global, world: &World, mailer: &Mailer, row: &Row) -> Result<bool, NoMemory> {
-    let address = Text::of(alloc, row.1.as_bytes())?;
-    let given = behind(alloc, world, &sender_sets(alloc, mailer)?, &address)?;
-    Ok(given.bytes() == row.3.as_bytes())
-}
-
-fn is_received(alloc: Global, world: &World, mailer: &Mailer, row: &Row) -> Result<bool, NoMemory> {
-    let address = Text::of(alloc, row.1.as_bytes())?;
-    let given = behind(alloc, world, &recipient_sets(alloc, mailer)?, &address)?;
-    Ok(given.bytes() == row.4.as_bytes())
+fn are_behind(world: &World, mailer: &Mailer, address: &Text, row: &Row) -> Result<bool, NoMemory> {
+    let alloc = address.allocator();
+    Ok(
+        is_sender(world, mailer, address, row.2)?
+            && is_behind(world, &sender_sets(alloc, mailer)?, address, row.3)?
+            && is_behind(world, &recipient_sets(alloc, mailer)?, address, row.4)?,
+    )
 }
 
 fn is_so(alloc: Global, world: &World, row: &Row) -> Result<bool, NoMemory> {
     let name = Text::of(alloc, row.0.as_bytes())?;
-    let Some(mailer) = world.config.mailer(&name) else {
-        return Ok(false);
-    };
-    Ok(
-        is_sent(alloc, world, mailer, row)?
-            && is_tried(alloc, world, mailer, row)?
-            && is_received(alloc, world, mailer, row)?,
-    )
+    match world.config.mailer(&name) {
+        Some(mailer) => are_behind(world, mailer, &Text::of(alloc, row.1.as_bytes())?, row),
+        None => Ok(false),
+    }
 }
 
 #[test]

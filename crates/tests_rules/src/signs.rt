@@ -3,21 +3,7 @@ use mail_base::{
     Item, Lookup, Mark, NoMemory, Pattern, Piece, Query, Seq, Step, Text, Token, Word,
 };
 use std::alloc::Global;
-
-/// Why a case isn't tried.
-#[derive(Clone, Copy, Debug)]
-pub enum Broken {
-    NoMemory,
-    ManySigns,
-    NotPlain,
-    NoMatch,
-}
-
-impl From<NoMemory> for Broken {
-    fn from(_error: NoMemory) -> Broken {
-        Broken::NoMemory
-    }
-}
+use std::test::Fail;
 
 // A token is written as one byte: `.`, `:` and `@` are operators, `#` is `$#`, `"` is a Quoted
 // token that is `q`, and `'` one that is `"q"`.
@@ -91,16 +77,17 @@ fn item_of(alloc: Global, sign: u8) -> Result<Item, NoMemory> {
     }
 }
 
-fn items_of(alloc: Global, signs: &str) -> Result<Seq<Item>, NoMemory> {
-    let mut items = Seq::new(alloc);
+fn add_items(items: &mut Seq<Item>, signs: &str) -> Result<(), NoMemory> {
     for sign in signs.as_bytes() {
-        items.push(item_of(alloc, *sign)?)?;
+        items.push(item_of(items.allocator(), *sign)?)?;
     }
-    Ok(items)
+    Ok(())
 }
 
-pub fn pattern_of(alloc: Global, signs: &str) -> Result<Pattern, Broken> {
-    Pattern::of(items_of(alloc, signs)?).ok_or(Broken::ManySigns)
+pub fn pattern_of(alloc: Global, signs: &str) -> Result<Pattern, Fail> {
+    let mut items = Seq::new(alloc);
+    add_items(&mut items, signs)?;
+    Ok(Pattern::of(items).ok_or("a side with too many items")?)
 }
 
 // A piece is written as a token, or as the digit of a `$1` to `$3`.
@@ -164,20 +151,20 @@ fn lookup_of(alloc: Global, signs: &[u8]) -> Result<Step, NoMemory> {
     Ok(Step::Lookup(Lookup::of(alloc, query)?))
 }
 
-/// The steps that are written so: a look-up stands in braces, and its parts are divided by `;`.
-pub fn steps_of(alloc: Global, signs: &str) -> Result<Seq<Step>, NoMemory> {
-    let mut steps = Seq::new(alloc);
+/// Adds the steps that are written so: a look-up stands in braces, and its parts are divided by
+/// `;`.
+pub fn add_right(steps: &mut Seq<Step>, signs: &str) -> Result<(), NoMemory> {
     let texts = signs
         .as_bytes()
         .split(|sign| *sign == b'{' || *sign == b'}');
     for (at, text) in texts.enumerate() {
         if at % 2 == 1 {
-            steps.push(lookup_of(alloc, text)?)?;
+            steps.push(lookup_of(steps.allocator(), text)?)?;
         } else {
-            add_steps(&mut steps, text)?;
+            add_steps(steps, text)?;
         }
     }
-    Ok(steps)
+    Ok(())
 }
 
 fn add_steps(steps: &mut Seq<Step>, signs: &[u8]) -> Result<(), NoMemory> {

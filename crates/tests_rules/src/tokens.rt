@@ -1,92 +1,91 @@
+use self::Call::{Angles, Dollars, Plain, Side, SideDollars, Typed};
 use addr_tokens::{Lexeme, ScanFault, join, lexemes, tokens, typed_tokens};
 use mail_base::{Mark, NoMemory, Seq, Text, Token, Word};
 use std::alloc::Global;
 
-/// A text, and its answer as `shown` writes it.
-type Row = (&'static [u8], &'static [u8]);
+/// How a text is read: with its angles checked or not, as it is typed, or as the side of a rule; by
+/// the operators `.:@[]`, or by a dollar sign alone.
+#[derive(Clone, Copy)]
+enum Call {
+    Plain,
+    Angles,
+    Typed,
+    Side,
+    Dollars,
+    SideDollars,
+}
 
-/// By the operators `.:@[]`, where angles aren't checked.
-static PLAIN: [Row; 3] = [
-    (b"a\0b\x1fc\x7fd\ne", b"W:a W:b W:c W:d W:e"),
-    (b"(\0\x7f\n<>@)a", b"W:a"),
-    (b"ab )c", b"Unbalanced 3"),
-];
+/// A call, a text, and its answer as `show_answer` writes it.
+type Row = (Call, &'static [u8], &'static [u8]);
 
-/// By the operators `.:@[]`, where angles are checked.
-static ANGLES: [Row; 2] = [
-    (b"a<b@c>", b"W:a O:< W:b O:@ W:c O:>"),
-    (b"<a<b", b"Unbalanced 2"),
-];
-
-/// Addresses that are typed, by the operators `.:@[]`, where angles are checked.
-static TYPED: [Row; 2] = [
-    (b"$#local$:eric", b"S:# W:local S:: W:eric"),
-    (b"$: \"", b"BadQuote 3"),
-];
-
-/// Sides of rules, by the operators `.:@[]`.
-static SIDES: [Row; 42] = [
-    (b"$-:$+", b"D:- O:: D:+"),
+static ROWS: [Row; 55] = [
+    // By the operators `.:@[]`, where angles aren't checked, and where they are.
+    (Plain, b"a\0b\x1fc\x7fd\ne", b"W:a W:b W:c W:d W:e"),
+    (Plain, b"(\0\x7f\n<>@)a", b"W:a"),
+    (Plain, b"ab )c", b"Unbalanced 3"),
+    (Angles, b"a<b@c>", b"W:a O:< W:b O:@ W:c O:>"),
+    (Angles, b"<a<b", b"Unbalanced 2"),
+    // Addresses that are typed.
+    (Typed, b"$#local$:eric", b"S:# W:local S:: W:eric"),
+    (Typed, b"$: \"", b"BadQuote 3"),
+    // Sides of rules.
+    (Side, b"$-:$+", b"D:- O:: D:+"),
     (
+        Side,
         b"$* < @ $=w . $~{x} > $&m",
         b"D:* O:< O:@ N:=w O:. N:~x O:> N:&m",
     ),
-    (b"$(host $1 $: $2 $)", b"D:( W:host D:1 D:: D:2 D:)"),
-    (b"$[ $1 $]", b"D:[ D:1 D:]"),
-    (b"$>Parse0 $1", b"D:> W:Parse0 D:1"),
-    (b"a$*b", b"W:a D:* W:b"),
+    (Side, b"$(host $1 $: $2 $)", b"D:( W:host D:1 D:: D:2 D:)"),
+    (Side, b"$[ $1 $]", b"D:[ D:1 D:]"),
+    (Side, b"$>Parse0 $1", b"D:> W:Parse0 D:1"),
+    (Side, b"a$*b", b"W:a D:* W:b"),
     (
+        Side,
         b"a$|b$.c$#d$@e$:",
         b"W:a D:| W:b D:. W:c D:# W:d D:@ W:e D::",
     ),
-    (b"$0$12$9", b"D:0 D:1 W:2 D:9"),
-    (b"\"a $1\"", b"Q:\"a $1\""),
-    (b"a\\$b", b"W:a\\$b"),
-    (b"( $1 )", b""),
-    (b"\"$\"", b"Q:\"$\""),
-    (b"$$$1", b"W:$ D:1"),
-    (b"($$)", b""),
-    (b"$={}a", b"N:= W:a"),
-    (b"$={a b}c", b"N:=a b W:c"),
-    (b"$={$x}", b"N:=$x"),
-    (b"$~wx", b"N:~w W:x"),
-    (b"$=w$&m", b"N:=w N:&m"),
-    (b"$={a}}", b"N:=a W:}"),
-    (b"< $~[ : $+ >", b"O:< N:~[ O:: D:+ O:>"),
-    (b"$=1$~=a", b"N:=1 N:~= W:a"),
-    (b"<a", b"O:< W:a"),
-    (b"$", b"BadDollar 0"),
-    (b"a b$", b"BadDollar 3"),
-    (b"$x", b"BadDollar 0"),
-    (b"${x}", b"BadDollar 0"),
-    (b"$ 1", b"BadDollar 0"),
-    (b"$?x", b"BadDollar 0"),
-    (b"$* $=", b"BadDollar 3"),
-    (b"$~ w", b"BadDollar 0"),
-    (b"a$={w", b"BadDollar 1"),
-    (b"$&$1", b"BadDollar 0"),
-    (b"$&[", b"BadDollar 0"),
-    (b"$=$*", b"BadDollar 0"),
-    (b"\\$$", b"BadDollar 2"),
-    (b"$1)", b"Unbalanced 2"),
-    (b"$1 ($(", b"Unbalanced 3"),
-    (b"$* \"a", b"BadQuote 3"),
-    (b"$* \\", b"BadQuote 3"),
-    (b"\"$\x01\"", b"BadQuote 2"),
-    (b") $", b"Unbalanced 0"),
-];
-
-/// Texts as tokens, where a dollar sign is an operator, and then in a side.
-static DOLLARS: [Row; 3] = [
-    (b"a$b", b"W:a O:$ W:b"),
-    (b"a$$b", b"W:a O:$ O:$ W:b"),
-    (b"$|$$$#", b"O:$ W:| O:$ O:$ O:$ W:#"),
-];
-
-static SIDE_DOLLARS: [Row; 3] = [
-    (b"a$b", b"BadDollar 1"),
-    (b"a$$b", b"W:a O:$ W:b"),
-    (b"$|$$$#", b"D:| O:$ D:#"),
+    (Side, b"$0$12$9", b"D:0 D:1 W:2 D:9"),
+    (Side, b"\"a $1\"", b"Q:\"a $1\""),
+    (Side, b"a\\$b", b"W:a\\$b"),
+    (Side, b"( $1 )", b""),
+    (Side, b"\"$\"", b"Q:\"$\""),
+    (Side, b"$$$1", b"W:$ D:1"),
+    (Side, b"($$)", b""),
+    (Side, b"$={}a", b"N:= W:a"),
+    (Side, b"$={a b}c", b"N:=a b W:c"),
+    (Side, b"$={$x}", b"N:=$x"),
+    (Side, b"$~wx", b"N:~w W:x"),
+    (Side, b"$=w$&m", b"N:=w N:&m"),
+    (Side, b"$={a}}", b"N:=a W:}"),
+    (Side, b"< $~[ : $+ >", b"O:< N:~[ O:: D:+ O:>"),
+    (Side, b"$=1$~=a", b"N:=1 N:~= W:a"),
+    (Side, b"<a", b"O:< W:a"),
+    (Side, b"$", b"BadDollar 0"),
+    (Side, b"a b$", b"BadDollar 3"),
+    (Side, b"$x", b"BadDollar 0"),
+    (Side, b"${x}", b"BadDollar 0"),
+    (Side, b"$ 1", b"BadDollar 0"),
+    (Side, b"$?x", b"BadDollar 0"),
+    (Side, b"$* $=", b"BadDollar 3"),
+    (Side, b"$~ w", b"BadDollar 0"),
+    (Side, b"a$={w", b"BadDollar 1"),
+    (Side, b"$&$1", b"BadDollar 0"),
+    (Side, b"$&[", b"BadDollar 0"),
+    (Side, b"$=$*", b"BadDollar 0"),
+    (Side, b"\\$$", b"BadDollar 2"),
+    (Side, b"$1)", b"Unbalanced 2"),
+    (Side, b"$1 ($(", b"Unbalanced 3"),
+    (Side, b"$* \"a", b"BadQuote 3"),
+    (Side, b"$* \\", b"BadQuote 3"),
+    (Side, b"\"$\x01\"", b"BadQuote 2"),
+    (Side, b") $", b"Unbalanced 0"),
+    // Texts as tokens, where a dollar sign is an operator, and then in a side.
+    (Dollars, b"a$b", b"W:a O:$ W:b"),
+    (Dollars, b"a$$b", b"W:a O:$ O:$ W:b"),
+    (Dollars, b"$|$$$#", b"O:$ W:| O:$ O:$ O:$ W:#"),
+    (SideDollars, b"a$b", b"BadDollar 1"),
+    (SideDollars, b"a$$b", b"W:a O:$ W:b"),
+    (SideDollars, b"$|$$$#", b"D:| O:$ D:#"),
 ];
 
 fn show(text: &mut Text, tag: &[u8], bytes: &[u8]) -> Result<(), NoMemory> {
@@ -116,172 +115,154 @@ fn mark_byte(mark: Mark) -> u8 {
     }
 }
 
-fn show_tokens(alloc: Global, tokens: &Seq<Token>) -> Result<Text, NoMemory> {
-    let mut text = Text::new(alloc);
-    for token in tokens.items() {
-        show_token(&mut text, token)?;
-    }
-    Ok(text)
-}
-
 fn show_named(text: &mut Text, byte: u8, name: &Text) -> Result<(), NoMemory> {
     show(text, b"N:", &[byte])?;
     text.extend(name.bytes())
 }
 
-fn show_lexemes(alloc: Global, lexemes: &Seq<Lexeme>) -> Result<Text, NoMemory> {
-    let mut text = Text::new(alloc);
-    for lexeme in lexemes.items() {
-        match lexeme {
-            Lexeme::Token(token) => show_token(&mut text, token)?,
-            Lexeme::Dollar(byte) => show(&mut text, b"D:", &[*byte])?,
-            Lexeme::Named(byte, name) => show_named(&mut text, *byte, name)?,
+fn show_lexeme(text: &mut Text, lexeme: &Lexeme) -> Result<(), NoMemory> {
+    match lexeme {
+        Lexeme::Token(token) => show_token(text, token),
+        Lexeme::Dollar(byte) => show(text, b"D:", &[*byte]),
+        Lexeme::Named(byte, name) => show_named(text, *byte, name),
+    }
+}
+
+fn show_fault(text: &mut Text, fault: ScanFault) -> Result<(), NoMemory> {
+    let name = format!(in text.allocator(); "{fault}")?;
+    text.extend(name.as_bytes())
+}
+
+fn show_tokens(text: &mut Text, given: &Result<Seq<Token>, ScanFault>) -> Result<(), NoMemory> {
+    match given {
+        Ok(tokens) => {
+            for token in tokens.items() {
+                show_token(text, token)?;
+            }
+            Ok(())
         }
+        Err(fault) => show_fault(text, *fault),
     }
-    Ok(text)
 }
 
-fn show_fault(alloc: Global, fault: ScanFault) -> Result<Text, NoMemory> {
-    let name = format!(in alloc; "{fault}")?;
-    Text::of(alloc, name.as_bytes())
-}
-
-/// How a text is read: with its angles checked or not, as it is typed, or as the side of a rule.
-#[derive(Clone, Copy)]
-enum Call {
-    Plain,
-    Angles,
-    Typed,
-    Side,
-}
-
-fn shown_tokens(alloc: Global, given: &Result<Seq<Token>, ScanFault>) -> Result<Text, NoMemory> {
+fn show_side(text: &mut Text, given: &Result<Seq<Lexeme>, ScanFault>) -> Result<(), NoMemory> {
     match given {
-        Ok(tokens) => show_tokens(alloc, tokens),
-        Err(fault) => show_fault(alloc, *fault),
+        Ok(lexemes) => {
+            for lexeme in lexemes.items() {
+                show_lexeme(text, lexeme)?;
+            }
+            Ok(())
+        }
+        Err(fault) => show_fault(text, *fault),
     }
 }
 
-fn shown_side(alloc: Global, given: &Result<Seq<Lexeme>, ScanFault>) -> Result<Text, NoMemory> {
-    match given {
-        Ok(lexemes) => show_lexemes(alloc, lexemes),
-        Err(fault) => show_fault(alloc, *fault),
-    }
-}
-
-// The answer for a text, as the tables write it.
-fn shown(alloc: Global, call: Call, operators: &Text, text: &Text) -> Result<Text, NoMemory> {
+// Writes the answer for a text.
+fn show_answer(out: &mut Text, call: Call, operators: &Text, text: &Text) -> Result<(), NoMemory> {
+    let alloc = out.allocator();
     match call {
-        Call::Plain => shown_tokens(alloc, &tokens(alloc, text, operators, false)),
-        Call::Angles => shown_tokens(alloc, &tokens(alloc, text, operators, true)),
-        Call::Typed => shown_tokens(alloc, &typed_tokens(alloc, text, operators, true)),
-        Call::Side => shown_side(alloc, &lexemes(alloc, text, operators, false)),
+        Plain | Dollars => show_tokens(out, &tokens(alloc, text, operators, false)),
+        Angles => show_tokens(out, &tokens(alloc, text, operators, true)),
+        Typed => show_tokens(out, &typed_tokens(alloc, text, operators, true)),
+        Side | SideDollars => show_side(out, &lexemes(alloc, text, operators, false)),
     }
 }
 
-fn is_shown(alloc: Global, call: Call, operators: &Text, row: &Row) -> Result<bool, NoMemory> {
-    let text = Text::of(alloc, row.0)?;
-    Ok(shown(alloc, call, operators, &text)?.bytes() == row.1)
+fn is_answer(call: Call, operators: &Text, text: &Text, wanted: &[u8]) -> Result<bool, NoMemory> {
+    let mut out = Text::new(text.allocator());
+    show_answer(&mut out, call, operators, text)?;
+    Ok(out.bytes() == wanted)
 }
 
-/// A call, its operators, and its rows.
-type Table = (Call, &'static [u8], &'static [Row]);
-
-// The tables by number. As constants of one another they would stand byte by byte in the proof.
-fn table(number: usize) -> Table {
-    match number {
-        0 => (Call::Plain, b".:@[]", &PLAIN),
-        1 => (Call::Angles, b".:@[]", &ANGLES),
-        2 => (Call::Typed, b".:@[]", &TYPED),
-        3 => (Call::Side, b".:@[]", &SIDES),
-        4 => (Call::Plain, b"$", &DOLLARS),
-        _ => (Call::Side, b"$", &SIDE_DOLLARS),
+fn operators_of(call: Call) -> &'static [u8] {
+    match call {
+        Dollars | SideDollars => b"$",
+        _ => b".:@[]",
     }
+}
+
+fn is_shown(alloc: Global, row: &Row) -> Result<bool, NoMemory> {
+    let operators = Text::of(alloc, operators_of(row.0))?;
+    is_answer(row.0, &operators, &Text::of(alloc, row.1)?, row.2)
 }
 
 #[test]
 fn tokens_signs_and_faults_by_the_rules(rt: HostRuntime) -> Result<(), NoMemory> {
-    for number in 0..6 {
-        let (call, operators, rows) = table(number);
-        let operators = Text::of(rt.alloc(), operators)?;
-        for (at, row) in rows.iter().enumerate() {
-            let is_shown = is_shown(rt.alloc(), call, &operators, row)?;
-            assert!(rt; is_shown, "table {number}, row {at}");
-        }
+    for (at, row) in ROWS.iter().enumerate() {
+        assert!(rt; is_shown(rt.alloc(), row)?, "row {at}");
     }
     Ok(())
 }
 
-/// So many times a byte, and then an end.
-fn repeated(alloc: Global, byte: u8, count: usize, end: &[u8]) -> Result<Text, NoMemory> {
-    let mut text = Text::new(alloc);
-    for _ in 0..count {
-        text.push(byte)?;
-    }
-    text.extend(end)?;
-    Ok(text)
-}
-
-/// The answer for such a text, or how many tokens it has.
-fn counted(alloc: Global, text: &Text) -> Result<Text, NoMemory> {
-    let operators = Text::new(alloc);
-    told(alloc, &tokens(alloc, text, &operators, true))
-}
-
-fn told(alloc: Global, given: &Result<Seq<Token>, ScanFault>) -> Result<Text, NoMemory> {
-    match given {
-        Ok(tokens) => show_count(alloc, tokens.len()),
-        Err(fault) => show_fault(alloc, *fault),
-    }
-}
-
-fn show_count(alloc: Global, count: usize) -> Result<Text, NoMemory> {
-    let name = format!(in alloc; "{count} tokens")?;
-    Text::of(alloc, name.as_bytes())
-}
-
-/// A byte, how often it stands, the end behind it, and the answer.
+/// A byte, how often it stands, the end behind it, and the answer, where angles are checked and no
+/// byte is an operator.
 type Long = (u8, usize, &'static [u8], &'static [u8]);
 
-const LONG: &[Long] = &[
+static LONG: [Long; 3] = [
     (b'(', 100_000, b"", b"Unbalanced 0"),
     (b'(', 100_000, b"\\", b"BadQuote 100000"),
     (b' ', 100_000, b")", b"Unbalanced 100000"),
 ];
 
-fn is_counted(alloc: Global, row: &Long) -> Result<bool, NoMemory> {
-    let text = repeated(alloc, row.0, row.1, row.2)?;
-    Ok(counted(alloc, &text)?.bytes() == row.3)
+fn add_long(text: &mut Text, row: &Long) -> Result<(), NoMemory> {
+    for _ in 0..row.1 {
+        text.push(row.0)?;
+    }
+    text.extend(row.2)
+}
+
+fn is_refused(alloc: Global, row: &Long) -> Result<bool, NoMemory> {
+    let mut text = Text::new(alloc);
+    add_long(&mut text, row)?;
+    is_answer(Angles, &Text::new(alloc), &text, row.3)
 }
 
 #[test]
 fn any_depth_is_looked_at(rt: HostRuntime) -> Result<(), NoMemory> {
-    for row in LONG {
-        assert!(rt; is_counted(rt.alloc(), row)?, "{} times {}", row.1, row.0);
+    for (at, row) in LONG.iter().enumerate() {
+        assert!(rt; is_refused(rt.alloc(), row)?, "row {at}");
     }
     Ok(())
 }
 
-const MARKS: &[Mark] = &[Mark::Alt, Mark::Mailer, Mark::Host, Mark::User, Mark::End];
+/// A token of the sample.
+enum Sample {
+    Word(&'static [u8]),
+    Quoted(&'static [u8]),
+    Op(u8),
+    Sign(Mark),
+}
 
-fn add_word(tokens: &mut Seq<Token>, word: &[u8]) -> Result<(), NoMemory> {
-    let word = Word::of(tokens.allocator(), word)?;
-    tokens.push(Token::Word(word))
+static SAMPLE: [Sample; 10] = [
+    Sample::Word(b"ann"),
+    Sample::Word(b"b"),
+    Sample::Quoted(b"\"c d\""),
+    Sample::Op(b'@'),
+    Sample::Sign(Mark::Alt),
+    Sample::Sign(Mark::Mailer),
+    Sample::Sign(Mark::Host),
+    Sample::Sign(Mark::User),
+    Sample::Sign(Mark::End),
+    Sample::Word(b"mx"),
+];
+
+fn token_of(alloc: Global, sample: &Sample) -> Result<Token, NoMemory> {
+    match sample {
+        Sample::Word(word) => Ok(Token::Word(Word::of(alloc, word)?)),
+        Sample::Quoted(quoted) => Ok(Token::Quoted(Word::of(alloc, quoted)?)),
+        Sample::Op(byte) => Ok(Token::Op(*byte)),
+        Sample::Sign(mark) => Ok(Token::Sign(*mark)),
+    }
 }
 
 fn add_sample(tokens: &mut Seq<Token>) -> Result<(), NoMemory> {
-    add_word(tokens, b"ann")?;
-    add_word(tokens, b"b")?;
-    let quoted = Word::of(tokens.allocator(), b"\"c d\"")?;
-    tokens.push(Token::Quoted(quoted))?;
-    tokens.push(Token::Op(b'@'))?;
-    for mark in MARKS {
-        tokens.push(Token::Sign(*mark))?;
+    for sample in &SAMPLE {
+        tokens.push(token_of(tokens.allocator(), sample)?)?;
     }
-    add_word(tokens, b"mx")
+    Ok(())
 }
 
-const JOINED: &[(Option<u8>, &[u8])] = &[
+static JOINED: [(Option<u8>, &[u8]); 2] = [
     (Some(b' '), b"ann b \"c d\"@$|$#$@$:$.mx"),
     (None, b"annb\"c d\"@$|$#$@$:$.mx"),
 ];
@@ -294,8 +275,8 @@ fn is_joined(alloc: Global, blank: Option<u8>, wanted: &[u8]) -> Result<bool, No
 
 #[test]
 fn a_blank_stands_between_words_alone(rt: HostRuntime) -> Result<(), NoMemory> {
-    for (blank, wanted) in JOINED {
-        assert!(rt; is_joined(rt.alloc(), *blank, wanted)?, "{blank:?}");
+    for (at, row) in JOINED.iter().enumerate() {
+        assert!(rt; is_joined(rt.alloc(), row.0, row.1)?, "row {at}");
     }
     Ok(())
 }
