@@ -1,4 +1,4 @@
-ghost use Rattle.std.specs.Prelude.{◌≡◌, ◌<◌, ◌≤◌, List, ℕ, Option, Some, None, Ok, false, length, IfOk, IsOk, OnOk, OnErr};
+ghost use Rattle.std.specs.Prelude.{◌≡◌, ◌<◌, ◌≤◌, List, ℕ, Option, None, Ok, false, length, IfOk, IsOk, OnOk, OnErr};
 ghost use Rattle.mail_base.specs.Limits.{message_limit, most_headers};
 ghost use Rattle.smtp_receive.specs.Dialogue.{data_answer, did_of, with_text};
 ghost use Rattle.smtp_receive.specs.Mails.{deed_of};

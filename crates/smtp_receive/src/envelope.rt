@@ -1,6 +1,6 @@
-ghost use Rattle.std.specs.Prelude.{◌≡◌, ◌++◌, ◌<◌, ◌+◌, ◌-◌, ◌^◌, List, ℕ, Option, Some, None, Ok, Err, true, false, is_some, length, nat_lt, IfOk, OnOk, OnErr};
+ghost use Rattle.std.specs.Prelude.{◌≡◌, ◌++◌, ◌<◌, ◌+◌, ◌-◌, ◌^◌, List, ℕ, Option, Some, None, Ok, true, false, is_some, length, nat_lt, IfOk, OnOk, OnErr};
 ghost use Rattle.mail_base.specs.Answering.{is_calm};
-ghost use Rattle.mail_base.specs.Limits.{message_limit, most_rows, recipient_limit};
+ghost use Rattle.mail_base.specs.Limits.{message_limit, most_rows};
 ghost use Rattle.mail_base.specs.Texts.{IsLine};
 ghost use Rattle.smtp_lines.specs.Commands.{Mail, Rcpt};
 ghost use Rattle.smtp_receive.specs.Dialogue.{bracketed, did_of, is_uncut, mail_fault, rcpt_fault, recipient_answer, sender_answer};

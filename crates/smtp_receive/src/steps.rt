@@ -1,11 +1,10 @@
-ghost use Rattle.std.specs.Prelude.{◌≡◌, List, ℕ, Some, None, Ok, Err, true, false, is_some, IfOk, OnOk, OnErr};
+ghost use Rattle.std.specs.Prelude.{◌≡◌, List, ℕ, Some, None, Ok, true, false, IfOk, OnOk, OnErr};
 ghost use Rattle.mail_base.specs.Answering.{is_calm};
 ghost use Rattle.mail_base.specs.Limits.{message_limit};
 ghost use Rattle.mail_base.specs.Refusals.{IsRefusal};
 ghost use Rattle.smtp_lines.specs.Commands.{Ehlo, Helo};
 ghost use Rattle.smtp_lines.specs.Reading.{order_of};
 ghost use Rattle.smtp_receive.specs.Dialogue.{Exchange, asked, read_in};
-ghost use Rattle.smtp_receive.specs.Judging.{Answers};
 ghost use Rattle.smtp_receive.specs.Mails.{Parted, Replied, deed_of};
 ghost use Rattle.smtp_receive.specs.Replies.{closing_text, extended_text, hello_text, refusal_text, text_of};
 ghost use Rattle.smtp_receive.specs.Sessions.{Keeps, cleared};

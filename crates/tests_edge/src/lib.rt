@@ -9,6 +9,8 @@ mod dialers;
 #[cfg(test)]
 mod edges;
 #[cfg(test)]
+mod events;
+#[cfg(test)]
 mod floors;
 pub mod once;
 #[cfg(test)]
