@@ -14,6 +14,7 @@ use Rattle.mail_header.specs.Fields.{IsDate, date_told}
 use Rattle.mail_header.specs.Made.{received_of}
 use Rattle.map_tables.specs.Answers.{Loaded}
 use Rattle.ruleset_run.specs.Sites.{Macros}
+use Rattle.cf_macros.specs.Literals.{literal}
 use Rattle.cf_macros.specs.SessionMacros.{session_macros}
 use Rattle.spool_store.specs.Entries.{Table}
 use Rattle.queue_plan.specs.Cuts.{AreParts}
@@ -38,14 +39,14 @@ pub record AreDates (message : Message) (moment : ℕ) (dates : Dates) : Type 0 
   pub unix : IsDateText Unix moment dates.unix
   pub short : IsDateText Short moment dates.short
 
--- macros with dates and an id
+-- macros with dates, of which the told one stands for itself, and an id
 abbrev pub dated_macros : Macros → Dates → ℕ → Macros
 dated_macros macros dates id =
     with_value (codes "i") (id_text id)
     (with_value (codes "t") dates.short
     (with_value (codes "d") dates.unix
     (with_value (codes "b") dates.mail
-    (with_value (codes "a") dates.told macros))))
+    (with_value (codes "a") (literal dates.told) macros))))
 
 -- the macros of a message that rulesets see on receipt: those of its session
 abbrev pub macros_seen : Config → Message → Macros

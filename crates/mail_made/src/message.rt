@@ -5,7 +5,7 @@ ghost use Rattle.queue_plan.specs.Cuts.{AreForms};
 ghost use Rattle.mail_made.specs.Messages.{IsMessageMade, put_first};
 ghost use Rattle.mail_made.specs.inner.Dated.{IsMacros};
 
-use cf_macros::{Form, date, session_macros};
+use cf_macros::{Form, date, literal, session_macros};
 use mail_base::{Config, Cut, Id, Macros, Message, NoMemory, Seq, Text, TryCopy};
 use mail_header::{date_of, received};
 use map_tables::Maps;
@@ -55,8 +55,9 @@ fn message_macros(
     let unix = date(alloc, moment, Form::Unix)?;
     let short = date(alloc, moment, Form::Short)?;
     let id = id.text(alloc)?;
+    let value = literal(alloc, told.bytes())?;
     let mut macros = session.copy()?;
-    macros.define(b"a", &told)?;
+    macros.define(b"a", &value)?;
     macros.define(b"b", &mail)?;
     macros.define(b"d", &unix)?;
     macros.define(b"t", &short)?;

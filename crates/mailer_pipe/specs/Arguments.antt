@@ -2,10 +2,11 @@
 -- A and macro u; that dollar signs of a user stay, and what u is in the words behind the first that
 -- holds it, are our own).
 use Rattle.std.specs.Prelude.{◌≡◌, ℕ, ◌+◌, ◌==◌, Bool, true, false, not, ◌||◌, ◌&&◌, List, [], ◌∷◌, ◌++◌, map, take, drop, length, bytes_eq, get_or, position, Option, None, Some, if◌then◌else◌, codes, refl}
-use Rattle.std.specs.List.{flat_map, list_all, list_any}
+use Rattle.std.specs.List.{list_all, list_any}
 use Rattle.mail_base.specs.Catalogs.{with_value}
 use Rattle.mail_base.specs.declared.mailer.Mailer.{Mailer}
 use Rattle.cf_macros.specs.Expansion.{expanded}
+use Rattle.cf_macros.specs.Literals.{literal}
 
 -- whether a text begins with another
 abbrev pub begins_with : List ℕ → List ℕ → Bool
@@ -34,14 +35,6 @@ words_of mailer = drop 1 mailer.args
 -- whether a mailer gets its users as arguments
 abbrev pub takes_users : Mailer → Bool
 takes_users mailer = list_any holds_user (words_of mailer)
-
--- a byte as it is written in a macro's value that is to have this byte
-abbrev pub literal_byte : ℕ → List ℕ
-literal_byte b = if b == 36 then 36 ∷ 36 ∷ [] else b ∷ []
-
--- the value of a macro that stands for a text, with each dollar sign written twice
-abbrev pub literal : List ℕ → List ℕ
-literal text = flat_map literal_byte text
 
 -- the macros for a user
 abbrev pub with_user : List ℕ → List (List ℕ × List ℕ) → List (List ℕ × List ℕ)
@@ -85,5 +78,4 @@ are_arguments users = list_all is_argument users
 example :
     (holds_user (codes "-d$u") ≡ true) × (holds_user (codes "a$&{u}") ≡ true)
     × (holds_user (codes "$$u $?u x$. u $U") ≡ false)
-    × (literal (codes "a$HOME") ≡ codes "a$$HOME")
-example = (refl, refl, refl, refl)
+example = (refl, refl, refl)

@@ -2,7 +2,7 @@ ghost use Rattle.std.specs.Prelude.{◌≡◌, ◌<◌, ◌≤◌, ◌++◌, IfN
 ghost use Rattle.mailer_pipe.specs.Arguments as spec;
 ghost use Rattle.mailer_pipe.specs.inner.Passing.{Passes};
 
-use cf_macros::expanded;
+use cf_macros::{expanded, literal};
 use mail_base::{Macros, Mailer, NoMemory, Seq, Text, TryCopy};
 use std::alloc::Global;
 
@@ -29,27 +29,6 @@ pub fn are_arguments(users: &Seq<Text>) -> bool
     ensures { result ≡ spec.are_arguments users.now }
 {
     users.items().iter().all(|user| is_argument(user))
-}
-
-/// The value of a macro that stands for a text: where the macro is expanded, each byte of the text
-/// comes, dollar signs too.
-pub fn literal(alloc: Global, text: &[u8]) -> Result<Text, NoMemory>
-    ensures { IfOk result (λ value. value ≡ spec.literal text.now) }
-{
-    let mut value = Text::new(alloc);
-    for byte in text {
-        push_literal(&mut value, *byte)?;
-    }
-    Ok(value)
-}
-
-fn push_literal(value: &mut Text, byte: u8) -> Result<(), NoMemory>
-    ensures { OnOk result (value.new ≡ value.old ++ spec.literal_byte byte) }
-{
-    if byte == b'$' {
-        return value.extend(b"$$");
-    }
-    value.push(byte)
 }
 
 // The words of A behind the program's name.

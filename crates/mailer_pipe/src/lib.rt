@@ -9,7 +9,7 @@ mod exit;
 mod fault;
 mod law;
 
-pub use arguments::{are_arguments, is_argument, literal, takes_users};
+pub use arguments::{are_arguments, is_argument, takes_users};
 pub use child::begin;
 pub use exit::{end, no_argument};
 pub use fault::PipeFault;

@@ -15,12 +15,12 @@ ghost use Rattle.queue_run.specs.inner.Handed.{HasHandFault, stop_of};
 use crate::claiming::claim_macros;
 use crate::{Letter, RunStop};
 use addr_route::sender_for;
+use cf_macros::literal;
 use header_rewrite::rewritten;
 use mail_base::{
     Config, Control, Id, Macros, Mailer, NoMemory, Resolved, StoreFault, Text, TryCopy,
 };
 use mail_header::{added, date_of, dated, outgoing};
-use mailer_pipe::literal;
 use map_tables::Maps;
 use queue_table::Table;
 use spool_disk::Spool;

@@ -2,6 +2,7 @@ use Rattle.std.proofs.Common.{◌∙◌, ap}
 use Rattle.std.specs.Prelude.{codes}
 use Rattle.mail_base.specs.Catalogs.{with_value}
 use Rattle.mail_base.specs.Names.{id_text as shown_id}
+use Rattle.cf_macros.specs.Literals.{literal}
 use Rattle.mail_made.proofs.message.message_macros.Goals as goal
 
 -- one macro after another is set
@@ -16,5 +17,6 @@ returns c = record {
       ∙ ap (λ m. with_value (codes "t") c.in_ok-short.short m) (c.in_ok-define-3.ensures.ok
       ∙ ap (λ m. with_value (codes "d") c.in_ok-unix.unix m) (c.in_ok-define-2.ensures.ok
       ∙ ap (λ m. with_value (codes "b") c.in_ok-mail.mail m) (c.in_ok-define.ensures.ok
-      ∙ ap (λ m. with_value (codes "a") c.in_ok-told.told m) c.in_ok-macros.ensures))));
+      ∙ ap (λ v. with_value (codes "a") v c.in_ok-macros.macros) c.in_ok-value.ensures
+      ∙ ap (λ m. with_value (codes "a") (literal c.in_ok-told.told) m) c.in_ok-macros.ensures))));
 }
