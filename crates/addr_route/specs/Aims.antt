@@ -4,6 +4,7 @@ use Rattle.std.specs.Prelude.{◌≡◌, ℕ, ◌==◌, ◌||◌, ◌&&◌, not,
 use Rattle.std.specs.List.{list_any}
 use Rattle.std.specs.Str.{str_to_ascii_lowercase}
 use Rattle.mail_base.specs.Catalogs.{value_like, with_value}
+use Rattle.mail_base.specs.Literals.{literal}
 use Rattle.mail_base.specs.declared.mailer.Mailer.{Mailer}
 use Rattle.mail_base.specs.declared.route.RouteError.{RouteError}
 use Rattle.mail_base.specs.declared.route.Triple.{Triple}
@@ -104,9 +105,9 @@ abbrev pub is_nil : List Token → Bool
 is_nil [] = true
 is_nil (token ∷ tokens) = false
 
--- the macro h has this value
+-- the macro h stands for this host
 abbrev pub with_host : List ℕ → Macros → Macros
-with_host host macros = with_value (codes "h") host macros
+with_host host macros = with_value (codes "h") (literal host) macros
 
 -- ---- the triple
 

@@ -13,7 +13,9 @@ use crate::aim::Aim;
 use crate::fault::Stop;
 use crate::message::said_by;
 use crate::triple::{has_flag, triple_of};
-use mail_base::{Cause, Config, Macros, Mailer, Mark, NoMemory, Seq, Text, Token, Triple, TryCopy};
+use mail_base::{
+    Cause, Config, Macros, Mailer, Mark, NoMemory, Seq, Text, Token, Triple, TryCopy, literal,
+};
 use map_tables::Maps;
 use ruleset_run::{Refusal, sets_of, through, user_sets};
 use std::alloc::Global;
@@ -116,13 +118,14 @@ fn has_five(config: &Config, name: &Text) -> bool
     }
 }
 
-// The macros, of which h has this value.
+// The macros, of which h stands for this host.
 fn with_host(alloc: Global, host: &Text, macros: &Macros) -> Result<Macros, NoMemory>
     ensures { IfOk result (λ new. new ≡ spec.with_host host.now macros.now) }
 {
+    let host = literal(alloc, host.bytes())?;
     let name = Text::of(alloc, b"h")?;
     let mut new = macros.copy()?;
-    new.set(&name, host)?;
+    new.set(&name, &host)?;
     Ok(new)
 }
 

@@ -3,7 +3,6 @@ pub mod Dates
 pub mod Expansion
 pub mod Names
 pub mod Readings
-pub mod Literals
 pub mod SessionMacros
 pub mod Written
 pub mod inner

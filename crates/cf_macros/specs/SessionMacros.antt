@@ -2,10 +2,10 @@
 -- and {client_addr}).
 use Rattle.std.specs.Prelude.{◌≡◌, ℕ, List, [], ◌∷◌, codes, refl}
 use Rattle.mail_base.specs.Catalogs.{with_value}
+use Rattle.mail_base.specs.Literals.{literal}
 use Rattle.mail_base.specs.Texts.{without_angles}
 use Rattle.mail_base.specs.declared.config.Config.{Config}
 use Rattle.mail_base.specs.declared.message.Kept.{Kept}
-use Rattle.cf_macros.specs.Literals.{literal}
 
 -- macros, with what is kept of a session and with f, its sender without the angles; what a peer
 -- said, which are s and f, stands for itself

@@ -1,8 +1,7 @@
 ghost use Rattle.std.specs.Prelude.{◌≡◌, IfOk};
 ghost use Rattle.cf_macros.specs.SessionMacros.{macros_with, session_macros};
 
-use crate::literals::literal;
-use mail_base::{Config, Kept, Macros, NoMemory, Text, TryCopy, without_angles};
+use mail_base::{Config, Kept, Macros, NoMemory, Text, TryCopy, literal, without_angles};
 use std::alloc::Global;
 
 /// The macros that are set in a session whose sender is this path (Sendmail Operation Guide, D:

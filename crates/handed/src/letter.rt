@@ -3,9 +3,11 @@
 use crate::order::Order;
 use addr_route::{route, sender_for};
 use anyhow::{Result, bail};
-use cf_macros::{literal, session_macros};
+use cf_macros::session_macros;
 use header_rewrite::rewritten;
-use mail_base::{Config, Macros, Mailer, NoMemory, Resolved, Seq, Split, Text, Triple, TryCopy};
+use mail_base::{
+    Config, Macros, Mailer, NoMemory, Resolved, Seq, Split, Text, Triple, TryCopy, literal,
+};
 use mail_header::{added, date_of, dated, outgoing, received, split};
 use mailer_pipe::{are_arguments, begin, takes_users};
 use map_tables::Maps;

@@ -11,6 +11,7 @@ pub mod Histories
 pub mod Lasts
 pub mod Lending
 pub mod Limits
+pub mod Literals
 pub mod Masks
 pub mod Metas
 pub mod Names

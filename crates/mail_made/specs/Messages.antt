@@ -14,7 +14,7 @@ use Rattle.mail_header.specs.Fields.{IsDate, date_told}
 use Rattle.mail_header.specs.Made.{received_of}
 use Rattle.map_tables.specs.Answers.{Loaded}
 use Rattle.ruleset_run.specs.Sites.{Macros}
-use Rattle.cf_macros.specs.Literals.{literal}
+use Rattle.mail_base.specs.Literals.{literal}
 use Rattle.cf_macros.specs.SessionMacros.{session_macros}
 use Rattle.spool_store.specs.Entries.{Table}
 use Rattle.queue_plan.specs.Cuts.{AreParts}

@@ -5,8 +5,8 @@ ghost use Rattle.queue_plan.specs.Cuts.{AreForms};
 ghost use Rattle.mail_made.specs.Messages.{IsMessageMade, put_first};
 ghost use Rattle.mail_made.specs.inner.Dated.{IsMacros};
 
-use cf_macros::{Form, date, literal, session_macros};
-use mail_base::{Config, Cut, Id, Macros, Message, NoMemory, Seq, Text, TryCopy};
+use cf_macros::{Form, date, session_macros};
+use mail_base::{Config, Cut, Id, Macros, Message, NoMemory, Seq, Text, TryCopy, literal};
 use mail_header::{date_of, received};
 use map_tables::Maps;
 use queue_plan::{cuts, distinct};

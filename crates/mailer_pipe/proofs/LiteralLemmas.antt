@@ -8,7 +8,7 @@ use Rattle.mail_base.specs.Catalogs.{value_at}
 use Rattle.mail_base.proofs.CatalogLemmas.{with_value_sets}
 use Rattle.cf_macros.specs.Readings.{Parts, Nothing, Bytes, Refer, Reading, Last, put, reading}
 use Rattle.cf_macros.specs.Expansion.{Act, Gives, Follows, acts_of, whole, followed, with_byte, outcome, value_in, value, expanded}
-use Rattle.cf_macros.specs.Literals.{literal}
+use Rattle.mail_base.specs.Literals.{literal}
 use Rattle.mailer_pipe.specs.Arguments.{with_user}
 
 -- the parts of a text each of whose bytes stands for itself

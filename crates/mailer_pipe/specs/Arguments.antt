@@ -6,7 +6,7 @@ use Rattle.std.specs.List.{list_all, list_any}
 use Rattle.mail_base.specs.Catalogs.{with_value}
 use Rattle.mail_base.specs.declared.mailer.Mailer.{Mailer}
 use Rattle.cf_macros.specs.Expansion.{expanded}
-use Rattle.cf_macros.specs.Literals.{literal}
+use Rattle.mail_base.specs.Literals.{literal}
 
 -- whether a text begins with another
 abbrev pub begins_with : List ℕ → List ℕ → Bool

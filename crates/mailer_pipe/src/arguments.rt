@@ -2,8 +2,8 @@ ghost use Rattle.std.specs.Prelude.{◌≡◌, ◌<◌, ◌≤◌, ◌++◌, IfN
 ghost use Rattle.mailer_pipe.specs.Arguments as spec;
 ghost use Rattle.mailer_pipe.specs.inner.Passing.{Passes};
 
-use cf_macros::{expanded, literal};
-use mail_base::{Macros, Mailer, NoMemory, Seq, Text, TryCopy};
+use cf_macros::expanded;
+use mail_base::{Macros, Mailer, NoMemory, Seq, Text, TryCopy, literal};
 use std::alloc::Global;
 
 /// Whether a mailer's A gives it its users as arguments: a word behind the program's name holds

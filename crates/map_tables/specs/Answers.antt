@@ -4,6 +4,7 @@ use Rattle.std.specs.Prelude.{◌≡◌, ℕ, Bool, true, false, List, [], ◌�
 use Rattle.std.specs.List.{find}
 use Rattle.mail_base.specs.Catalogs.{value_at, with_value, without_name}
 use Rattle.mail_base.specs.Lasts.{last_named}
+use Rattle.mail_base.specs.Literals.{literal}
 use Rattle.mail_base.specs.Texts.{without_ends}
 use Rattle.mail_base.specs.declared.lines.MapClass.{MapClass}
 use Rattle.mail_base.specs.declared.lines.MapClass.TheVariants.{Text as TextClass, Hash, Btree, Host, Dequote, Sequence, Null, Arith, Macro, Other}
@@ -134,10 +135,10 @@ TellsOr wanted result = result ≡ wanted
 abbrev pub macro_name : List ℕ → List ℕ
 macro_name key = without_ends 123 125 key
 
--- the macro of that name has the first argument as its value, or isn't set where there is none
+-- the macro of that name stands for the first argument, or isn't set where there is none
 abbrev pub with_macro : List ℕ → List (List ℕ) → List (List ℕ × List ℕ) → List (List ℕ × List ℕ)
 with_macro name [] macros = without_name name macros
-with_macro name (value ∷ args) macros = with_value name value macros
+with_macro name (text ∷ args) macros = with_value name (literal text) macros
 
 -- an answer sets the macro that the key names: only one of a map of the class macro does
 abbrev pub sets_macro : Option Answer → Bool

@@ -10,7 +10,9 @@ use crate::answering::place_answer;
 use crate::host_table::HostTable;
 use crate::texts::first_places;
 use crate::{Found, MapFault, MapReply, Named, Table};
-use mail_base::{Catalog, Config, Macros, MapLine, NoMemory, Seq, Text, TryCopy, without_ends};
+use mail_base::{
+    Catalog, Config, Macros, MapLine, NoMemory, Seq, Text, TryCopy, literal, without_ends,
+};
 use std::alloc::Global;
 use std::marker::Model;
 
@@ -172,7 +174,7 @@ fn set_macro(key: &Text, args: &Seq<Text>, macros: &mut Macros) -> Result<(), No
 {
     let name = Text::of(key.allocator(), macro_name(key.bytes()))?;
     match args.items().first() {
-        Some(value) => macros.set(&name, value),
+        Some(text) => macros.set(&name, &literal(key.allocator(), text.bytes())?),
         None => {
             macros.unset(&name);
             Ok(())

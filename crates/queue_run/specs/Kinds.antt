@@ -16,7 +16,7 @@ use Rattle.link_edge.specs.declared.peer.Peer.{Peer}
 use Rattle.map_tables.specs.Answers.{Loaded}
 use Rattle.ruleset_run.specs.Sites.{Macros}
 use Rattle.mail_header.specs.Outgoing.{is_network}
-use Rattle.cf_macros.specs.Literals.{literal}
+use Rattle.mail_base.specs.Literals.{literal}
 use Rattle.mailer_pipe.specs.Arguments.{is_argument, takes_users}
 use Rattle.mailer_pipe.specs.Ends.{no_argument}
 use Rattle.queue_run.specs.declared.batch.Batch.{Batch}

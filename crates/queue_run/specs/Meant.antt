@@ -19,7 +19,7 @@ use Rattle.mail_header.specs.Fields.{IsDate, date_told}
 use Rattle.mail_header.specs.Made.{added_of}
 use Rattle.mail_header.specs.Outgoing.{outgoing_of}
 use Rattle.dsn_bounce.specs.Returned.{IsBounce, IsWarning}
-use Rattle.cf_macros.specs.Literals.{literal}
+use Rattle.mail_base.specs.Literals.{literal}
 use Rattle.mailer_pipe.specs.Starts.{start_of}
 use Rattle.spawn_edge.specs.declared.event.Start.{Start}
 use Rattle.queue_run.specs.Backs.{AreSentTo, Drawer, untold}

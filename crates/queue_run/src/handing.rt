@@ -15,10 +15,9 @@ ghost use Rattle.queue_run.specs.inner.Handed.{HasHandFault, stop_of};
 use crate::claiming::claim_macros;
 use crate::{Letter, RunStop};
 use addr_route::sender_for;
-use cf_macros::literal;
 use header_rewrite::rewritten;
 use mail_base::{
-    Config, Control, Id, Macros, Mailer, NoMemory, Resolved, StoreFault, Text, TryCopy,
+    Config, Control, Id, Macros, Mailer, NoMemory, Resolved, StoreFault, Text, TryCopy, literal,
 };
 use mail_header::{added, date_of, dated, outgoing};
 use map_tables::Maps;

@@ -6,7 +6,7 @@ ghost use Rattle.ruleset_run.specs.inner.Values.{current, lates, with_change, wi
 
 use addr_tokens::cut;
 use cf_macros::expanded;
-use mail_base::{Catalog, Macros, NoMemory, Seq, Text, Token, TryCopy};
+use mail_base::{Catalog, Macros, NoMemory, Seq, Text, Token, TryCopy, literal};
 use map_tables::{Found, MapFault, Maps, macro_name};
 use std::alloc::Global;
 use std::marker::Model;
@@ -136,8 +136,8 @@ impl<'a> Values<'a> {
         Ok(reply.found)
     }
 
-    // The macro that a key names has the first argument as its value, and isn't set where there is
-    // none; it waits.
+    // The macro that a key names stands for the first argument, and isn't set where there is none;
+    // it waits.
     fn change(&mut self, key: &Text, args: &Seq<Text>) -> Result<(), NoMemory>
         ensures ok { OnOk result
             (self.new ≡ record self.old {
@@ -147,7 +147,7 @@ impl<'a> Values<'a> {
     {
         let name = Text::of(self.allocator(), macro_name(key.bytes()))?;
         let value = match args.get(0) {
-            Some(value) => Some(value.copy()?),
+            Some(text) => Some(literal(self.allocator(), text.bytes())?),
             None => None,
         };
         self.waiting.push(Change { name, value })

@@ -1,5 +1,4 @@
-use mail_base::{Macros, Mailer, NoMemory, Seq, Text, words_of};
-use cf_macros::literal;
+use mail_base::{Macros, Mailer, NoMemory, Seq, Text, literal, words_of};
 use mailer_pipe::{PipeFault, are_arguments, begin, is_argument, takes_users};
 use spawn_edge::{ScriptSpawner, SpawnEvent, Start};
 use std::alloc::Global;

@@ -2,7 +2,7 @@ use Rattle.std.proofs.Common.{◌∙◌, ap}
 use Rattle.std.specs.Prelude.{codes}
 use Rattle.mail_base.specs.Catalogs.{with_value}
 use Rattle.mail_base.specs.Names.{id_text as shown_id}
-use Rattle.cf_macros.specs.Literals.{literal}
+use Rattle.mail_base.specs.Literals.{literal}
 use Rattle.mail_made.proofs.message.message_macros.Goals as goal
 
 -- one macro after another is set

@@ -1,7 +1,7 @@
 ghost use Rattle.std.specs.Prelude.{◌≡◌, ◌++◌, IfOk, OnOk};
-ghost use Rattle.cf_macros.specs.Literals as spec;
+ghost use Rattle.mail_base.specs.Literals as spec;
 
-use mail_base::{NoMemory, Text};
+use crate::{NoMemory, Text};
 use std::alloc::Global;
 
 /// The value of a macro that stands for a text: where the macro is expanded, each byte of the text
