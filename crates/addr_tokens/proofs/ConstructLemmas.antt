@@ -1,5 +1,5 @@
 -- Constructs that begin with a dollar sign: what is read of one is one, and one is read.
-use Rattle.std.proofs.Common.{◌≡◌, ℕ, ◌==◌, Bool, true, false, not, ◌&&◌, ◌||◌, cond, List, [], ◌∷◌, ◌++◌, Option, Some, None, Ok, Err, refl, sym, ◌∙◌, ap, subst}
+use Rattle.std.proofs.Common.{◌≡◌, ℕ, ◌==◌, Bool, true, false, not, ◌&&◌, ◌||◌, cond, List, [], ◌∷◌, ◌++◌, length, Option, Some, None, Ok, Err, refl, sym, ◌∙◌, ap, subst}
 use Rattle.std.specs.List.{list_any}
 use Rattle.std.proofs.lemmas.Bool.{cond_both, cond-true, cond-false, and_parts, and_from, and_left, and_right, or_parts, not-true, not_from_false, eqb-true, both_ways, false≢true}
 use Rattle.std.proofs.lemmas.List.{append_assoc}
@@ -87,12 +87,17 @@ module _ (alphabet : Alphabet) where
     reads : (construct : Construct) (rest : List ℕ) → IsConstruct text construct rest → DollarReads place text (Ok (Dollar construct, rest))
     refuses : DollarReads place text (Err (BadDollar place))
 
+  name_reads : (place b : ℕ) (cs name rest : List ℕ) (empty : Bool) → (length name == 0) ≡ empty → is_side alphabet.dollars ≡ true → is_naming b ≡ true → Braces cs (Some (name, rest))
+      → DollarReads place (b ∷ 123 ∷ cs) (cond empty (Err (BadDollar place)) (Ok (Dollar (Braced b name), rest)))
+  name_reads place b cs name rest true e side naming is = refuses
+  name_reads place b cs name rest false e side naming is = reads (Braced b name) rest (record {
+    whole = ap (λ x. b ∷ 123 ∷ x) (is.0 ∙ sym (append_assoc name (125 ∷ []) rest));
+    is = side_construct alphabet.dollars operator (Braced b name) side ∙ and_from _ _ naming (and_from _ _ (ap not e) is.1);
+  })
+
   braced_reads : (place b : ℕ) (cs : List ℕ) (found : Option (List ℕ × List ℕ)) → is_side alphabet.dollars ≡ true → is_naming b ≡ true → Braces cs found → DollarReads place (b ∷ 123 ∷ cs) (first_braced place b found)
   braced_reads place b cs None side naming is = refuses
-  braced_reads place b cs (Some parts) side naming is = reads (Braced b parts.0) parts.1 (record {
-    whole = ap (λ x. b ∷ 123 ∷ x) (is.0 ∙ sym (append_assoc parts.0 (125 ∷ []) parts.1));
-    is = side_construct alphabet.dollars operator (Braced b parts.0) side ∙ and_from _ _ naming is.1;
-  })
+  braced_reads place b cs (Some parts) side naming is = name_reads place b cs parts.0 parts.1 (length parts.0 == 0) refl side naming is
 
   letter_reads : (place b c : ℕ) (cs : List ℕ) (named : Bool) → is_letter b c ≡ named → is_side alphabet.dollars ≡ true → is_naming b ≡ true → DollarReads place (b ∷ c ∷ cs) (cond named (Ok (Dollar (Letter b c), cs)) (Err (BadDollar place)))
   letter_reads place b c cs true name side naming = reads (Letter b c) cs (record { whole = refl; is = side_construct alphabet.dollars operator (Letter b c) side ∙ and_from _ _ naming name })
@@ -181,6 +186,8 @@ module _ (alphabet : Alphabet) where
       naming_first place b (letter ∷ rest) side p.0 ∙ cond-false _ _ _ (letter_brace b letter (letter == 123) refl p.1) ∙ cond-true _ _ _ p.1
   construct_first place (Braced b name) rest is =
       let side = named_side alphabet.dollars operator (Braced b name) (λ x e. cc e) is in
-      let p = and_parts (is_naming b) (is_in_braces name) (sym (side_construct alphabet.dollars operator (Braced b name) side) ∙ is) in
+      let p = and_parts (is_naming b) (not (length name == 0) && is_in_braces name) (sym (side_construct alphabet.dollars operator (Braced b name) side) ∙ is) in
+      let q = and_parts (not (length name == 0)) (is_in_braces name) p.1 in
       naming_first place b (123 ∷ ((name ++ 125 ∷ []) ++ rest)) side p.0
-      ∙ ap (first_braced place b) (ap in_braces (append_assoc name (125 ∷ []) rest) ∙ braces_is name rest p.1)
+      ∙ ap (first_braced place b) (ap in_braces (append_assoc name (125 ∷ []) rest) ∙ braces_is name rest q.1)
+      ∙ cond-false _ _ _ (not-true _ q.0)

@@ -1,7 +1,7 @@
 -- The pieces that a text is cut into, and what they give (Sendmail Installation and Operation
 -- Guide, "R and S: Rewriting Rules" and its option OperatorChars; for quoted strings and comments
 -- RFC 5322 sections 3.2.1, 3.2.2 and 3.2.4).
-use Rattle.std.specs.Prelude.{◌≡◌, ◌≢◌, ℕ, Bool, true, false, not, ◌&&◌, ◌||◌, ◌==◌, nat_lt, List, [], ◌∷◌, ◌++◌, codes, slice_index, if◌then◌else◌}
+use Rattle.std.specs.Prelude.{◌≡◌, ◌≢◌, ℕ, Bool, true, false, not, ◌&&◌, ◌||◌, ◌==◌, nat_lt, List, [], ◌∷◌, ◌++◌, length, codes, slice_index, if◌then◌else◌}
 use Rattle.std.specs.List.{list_any, flat_map}
 use Rattle.mail_base.specs.Whites.{is_white}
 use Rattle.mail_base.specs.declared.token.Token.TheVariants.{Word, Quoted, Op, Sign}
@@ -78,7 +78,7 @@ is_class_name b = not (is_white b) && not (b == 36 || b == 123)
 abbrev pub is_letter : ℕ → ℕ → Bool
 is_letter byte letter = if byte == 38 then is_name letter else is_class_name letter
 
--- a name in braces is up to the first closing one
+-- a name in braces is up to the first closing one, and no construct has an empty one
 abbrev pub is_in_braces : List ℕ → Bool
 is_in_braces name = not (list_any (λ b. b == 125) name)
 
@@ -102,7 +102,8 @@ is_construct_in Typed operator (Letter byte letter) = false
 is_construct_in Typed operator (Braced byte name) = false
 is_construct_in Side operator (Single byte) = is_bare byte || byte == 36 && operator
 is_construct_in Side operator (Letter byte letter) = is_naming byte && is_letter byte letter
-is_construct_in Side operator (Braced byte name) = is_naming byte && is_in_braces name
+is_construct_in Side operator (Braced byte name) =
+    is_naming byte && (not (length name == 0) && is_in_braces name)
 
 -- a doubled dollar sign is a construct where it is an operator, and else it stands in a word
 abbrev pub is_construct : Alphabet → Construct → Bool

@@ -99,10 +99,11 @@ abbrev pub in_braces : List ℕ → Option (List ℕ × List ℕ)
 in_braces [] = None
 in_braces (b ∷ bs) = if b == 125 then Some ([], bs) else with_byte b (in_braces bs)
 
--- a construct with a name in braces, if they are closed
+-- a construct with a name in braces, if they are closed and aren't empty
 abbrev pub first_braced : ℕ → ℕ → Option (List ℕ × List ℕ) → First
 first_braced place b None = Err (BadDollar place)
-first_braced place b (Some parts) = Ok (Dollar (Braced b parts.0), parts.1)
+first_braced place b (Some parts) =
+    if length parts.0 == 0 then Err (BadDollar place) else Ok (Dollar (Braced b parts.0), parts.1)
 
 -- the name behind a dollar sign with this byte
 abbrev pub first_named : ℕ → ℕ → List ℕ → First

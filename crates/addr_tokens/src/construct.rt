@@ -72,7 +72,7 @@ fn named_of(text: &[u8], place: u64) -> Result<Construct, ScanFault>
     Err(ScanFault::BadDollar(place))
 }
 
-/// The same, where the name stands in braces.
+/// The same, where the name stands in braces, which may not be empty.
 fn braced_of(text: &[u8], place: u64) -> Result<Construct, ScanFault>
     requires { 1 < length text.now }
     ensures within { IfOk result (λ found. size_behind found ≤ length text.now) }
@@ -81,8 +81,8 @@ fn braced_of(text: &[u8], place: u64) -> Result<Construct, ScanFault>
         ≡ construct_read text.now result }
 {
     match brace_at(&text[2..]) {
+        None | Some(0) => Err(ScanFault::BadDollar(place)),
         Some(size) => Ok(Construct::Braced(text[0], size)),
-        None => Err(ScanFault::BadDollar(place)),
     }
 }
 

@@ -1,6 +1,6 @@
 -- H lines, by what follows the letter (Sendmail Installation and Operation Guide, "H: Define
 -- Header"; that blanks at both ends of the name go is our own).
-use Rattle.std.specs.Prelude.{◌≡◌, ◌==◌, ◌++◌, ℕ, Bool, true, not, nat_eq, is_some, List, [], ◌∷◌, Option, None, Some, if◌then◌else◌, codes, refl}
+use Rattle.std.specs.Prelude.{◌≡◌, ◌==◌, ◌||◌, ◌++◌, ℕ, Bool, true, not, nat_eq, is_some, List, [], ◌∷◌, Option, None, Some, if◌then◌else◌, codes, refl}
 use Rattle.std.specs.List.{starts_with}
 use Rattle.mail_base.specs.Texts.{without_blanks}
 use Rattle.mail_base.specs.declared.lines.HeaderLine.{HeaderLine}
@@ -34,9 +34,13 @@ fault_of_header text = first_fault ((BadHeader, is_bad_header text) ∷ [])
 abbrev pub calls_rules : List ℕ → Bool
 calls_rules template = starts_with nat_eq (stripped template) (codes "$>")
 
--- a header that calls rulesets is ignored, with a warning
-abbrev pub unless_call : List ℕ → List ℕ → List ℕ → Option HeaderLine
-unless_call flags name template = if calls_rules template then None
+-- what stands between the question marks is a macro where its first byte is a dollar sign
+abbrev pub is_macro : List ℕ → Bool
+is_macro flags = starts_with nat_eq flags (codes "$")
+
+-- a header that calls rulesets, or hangs on a macro, is ignored, with a warning
+abbrev pub unless_other : List ℕ → List ℕ → List ℕ → Option HeaderLine
+unless_other flags name template = if is_macro flags || calls_rules template then None
     else Some (record {
       flags = flags_of flags;
       name = stripped name;
@@ -46,7 +50,7 @@ unless_call flags name template = if calls_rules template then None
 -- a header by its flags, and by its name and its template
 abbrev pub header_in : List ℕ → Option (List ℕ × List ℕ) → Option HeaderLine
 header_in flags None = None
-header_in flags (Some field) = unless_call flags field.0 field.1
+header_in flags (Some field) = unless_other flags field.0 field.1
 
 -- a header by its flags and the field behind them
 abbrev pub header_by : Option (List ℕ × List ℕ) → Option HeaderLine
@@ -73,7 +77,9 @@ example :
     (header_of (codes "?P?Return-Path: <$g>") ≡ path_header)
     × (header_of (codes "Received: from $s" ++ 10 ∷ codes "\tby $j") ≡ joined_header)
     × (header_of (codes "Subject: $>Check") ≡ None)
+    × (header_of (codes "?${m}?X-A: b") ≡ None)
     × (fault_of_header (codes "Subject: $>Check") ≡ None)
+    × (fault_of_header (codes "?${m}?X-A: b") ≡ None)
     × (fault_of_header (codes "?P?Return-Path") ≡ Some BadHeader)
     × (fault_of_header (codes "?P:Return-Path: x") ≡ Some BadHeader)
-example = (refl, refl, refl, refl, refl, refl)
+example = (refl, refl, refl, refl, refl, refl, refl, refl)

@@ -11,8 +11,8 @@ use mail_base::{HeaderLine, NoMemory, Text, stripped, without_blanks};
 use std::alloc::Global;
 
 /// The header that an H line declares, by what follows the letter: `?flags?Name: template` or
-/// `Name: template`. `None` is a line whose template calls rulesets, which is ignored with a
-/// warning. `BadHeader` comes exactly where no colon stands behind the flags, or they aren't closed
+/// `Name: template`. `None` is a line whose template calls rulesets, or whose flags are a macro: it
+/// is ignored with a warning. `BadHeader` comes exactly where no colon stands behind the flags, or they aren't closed
 /// (Sendmail Installation and Operation Guide, "H: Define Header").
 pub(crate) fn header(alloc: Global, text: &[u8]) -> Result<Option<HeaderLine>, LineStop>
     ensures { Reads result (fault_of_header text.now) (header_of text.now) }
@@ -23,7 +23,7 @@ pub(crate) fn header(alloc: Global, text: &[u8]) -> Result<Option<HeaderLine>, L
     let Some((name, template)) = cut_at(field, b':') else {
         return Err(LineStop::Refused(Fault::BadHeader));
     };
-    if calls_rules(template) {
+    if is_macro(marked) || calls_rules(template) {
         return Ok(None);
     }
     Ok(Some(HeaderLine {
@@ -52,6 +52,13 @@ fn calls_rules(template: &[u8]) -> bool
     ensures { result ≡ spec.calls_rules template.now }
 {
     stripped(template).starts_with(b"$>")
+}
+
+// In Sendmail such a header is added where the macro is set.
+fn is_macro(flags: &[u8]) -> bool
+    ensures { result ≡ spec.is_macro flags.now }
+{
+    flags.starts_with(b"$")
 }
 
 fn flags_in(alloc: Global, text: &[u8]) -> Result<Text, NoMemory>
