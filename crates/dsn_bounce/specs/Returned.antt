@@ -5,6 +5,7 @@ use Rattle.std.specs.Prelude.{◌≡◌, ℕ, ℤ, pos, Bool, true, false, int_l
 use Rattle.std.specs.List.{flat_map}
 use Rattle.mail_base.specs.Drawing.{null_sender}
 use Rattle.mail_base.specs.Notes.{blanked}
+use Rattle.mail_base.specs.Texts.{lines_of_header}
 use Rattle.mail_base.specs.declared.config.Config.{Config}
 use Rattle.mail_base.specs.declared.control.Control.{Control}
 use Rattle.mail_base.specs.declared.control.Row.{Row}
@@ -66,10 +67,14 @@ received_lines created = received_words ++ (line created ++ line [])
 abbrev pub told_lines : Topic → List Row → List ℕ
 told_lines topic rows = line (heading topic) ++ (told_rows topic rows ++ line [])
 
+-- the lines of a header, whatever ends them in it
+abbrev pub header_lines : List ℕ → List ℕ
+header_lines header = flat_map line (lines_of_header header)
+
 -- and then the headers of the entry's message
 abbrev pub original_lines : Topic → Control → List ℕ
 original_lines topic control = line (original (is_whole topic control.class))
-    ++ (line [] ++ flat_map line control.headers)
+    ++ (line [] ++ flat_map header_lines control.headers)
 
 -- what stands in the body before the entry's own
 abbrev pub front_of : Topic → Control → (created : List ℕ) → List ℕ
@@ -82,7 +87,7 @@ body_of topic control body created =
 
 -- a message as a text: its headers, an empty line and its body
 abbrev pub text_of : List (List ℕ) → List ℕ → List ℕ
-text_of headers body = flat_map line headers ++ (line [] ++ body)
+text_of headers body = flat_map header_lines headers ++ (line [] ++ body)
 
 -- a bounce of a message with the null sender is a double bounce
 abbrev pub is_double : Topic → Control → Bool
@@ -124,5 +129,6 @@ abbrev pub IsWarning : Config → Control → (moment : ℕ) → Message → Typ
 IsWarning config control moment message = IsNotice Warning config control [] moment message
 
 example : (titled (codes "To") (codes "<a\n@b>") ≡ codes "To: <a @b>")
+    × (header_lines (codes "To: a,\n b") ≡ codes "To: a,\r\n b\r\n")
     × (rest_of true (codes "hi") ≡ 13 ∷ 10 ∷ codes "hi")
-example = (refl, refl)
+example = (refl, refl, refl)

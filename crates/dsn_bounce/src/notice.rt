@@ -5,12 +5,13 @@ ghost use Rattle.mail_base.specs.Notes.{blanked};
 ghost use Rattle.mail_base.specs.Texts.{IsHeader};
 ghost use Rattle.cf_macros.specs.Expansion as expansion;
 ghost use Rattle.dsn_bounce.specs.Returned as spec;
-ghost use Rattle.dsn_bounce.specs.Rows.{line};
 
 use crate::reasons::{push_line, push_rows};
 use crate::topic::Topic;
 use cf_macros::{Form, date, host_name};
-use mail_base::{Config, Control, Kept, Marks, Message, NoMemory, Row, Seq, Text, blanked};
+use mail_base::{
+    Config, Control, Kept, Marks, Message, NoMemory, Row, Seq, Text, blanked, split_line,
+};
 use std::alloc::Global;
 
 /// The message that returns an entry's failed rows to its sender, or, where that is null, to
@@ -265,10 +266,23 @@ fn push_original(text: &mut Text, topic: Topic, control: &Control) -> Result<(),
 }
 
 fn push_headers(text: &mut Text, headers: &[Text]) -> Result<(), NoMemory>
-    ensures { OnOk result (text.new ≡ text.old ++ flat_map line headers.now) }
+    ensures { OnOk result (text.new ≡ text.old ++ flat_map spec.header_lines headers.now) }
 {
     for header in headers {
-        push_line(text, header.bytes())?;
+        push_header(text, header.bytes())?;
+    }
+    Ok(())
+}
+
+// Each line of a header ends in CR LF, whatever ended it before.
+fn push_header(text: &mut Text, header: &[u8]) -> Result<(), NoMemory>
+    ensures { OnOk result (text.new ≡ text.old ++ spec.header_lines header.now) }
+{
+    let mut rest = header;
+    'lines: while !rest.is_empty() {
+        let (line, behind) = split_line(rest);
+        push_line(text, line)?;
+        rest = behind;
     }
     Ok(())
 }

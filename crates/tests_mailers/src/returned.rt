@@ -14,6 +14,12 @@ static ONE: &[u8] = b"V1\nv1\ngmqueue\nT1767225600\nK0\nN0\nP30022\n\
         RPFD:<cid@mx.example>\neF 5.1.1 exit 67\n\
         HSubject: hi\nHTo: a,\r\n b\n.\n";
 
+// The same with a header whose lines end in LF alone, as those of an H line do.
+static FOLDED: &[u8] = b"V1\nv1\ngmqueue\nT1767225600\nK0\nN0\nP30022\n\
+        c0\nS<bob@c.example>\n$rSMTP\n$sc.example\n${client_addr}192.0.2.1\n\
+        RPFD:<cid@mx.example>\neF 5.1.1 exit 67\n\
+        HReceived: from c;\n\tThu\n now\nHTo: a,\r\n b\n.\n";
+
 // The same of the null sender.
 static NULL: &[u8] = b"V1\nv1\ngmqueue\nT1767225600\nK0\nN0\nP30022\n\
         c0\nS<>\n$rSMTP\n$sc.example\n${client_addr}192.0.2.1\n\
@@ -44,6 +50,17 @@ static BOUNCE_OF_ONE: &[u8] = b"Date: Fri, 2 Jan 2026 00:00:00 +0000\r\n\
         \r\n\
         \x20  ----- Original message -----\r\n\r\n\
         Subject: hi\r\nTo: a,\r\n b\r\n\r\nhello\r\n";
+
+static BOUNCE_OF_FOLDED: &[u8] = b"Date: Fri, 2 Jan 2026 00:00:00 +0000\r\n\
+        From: Mail Delivery Subsystem <MAILER-DAEMON@localhost>\r\n\
+        To: <bob@c.example>\r\nSubject: Returned mail: see transcript for details\r\n\
+        Auto-Submitted: auto-generated\r\n\r\n\
+        The message was received at Thu, 1 Jan 2026 00:00:00 +0000\r\n\r\n\
+        \x20  ----- Addresses with fatal errors -----\r\n\
+        <cid@mx.example>\r\n    (reason: 5.1.1 exit 67)\r\n\
+        \r\n\
+        \x20  ----- Original message -----\r\n\r\n\
+        Received: from c;\r\n\tThu\r\n now\r\nTo: a,\r\n b\r\n\r\nhello\r\n";
 
 static DOUBLE_BOUNCE: &[u8] = b"Date: Fri, 2 Jan 2026 00:00:00 +0000\r\n\
         From: Mail Delivery Subsystem <MAILER-DAEMON@localhost>\r\n\
@@ -154,6 +171,7 @@ fn is_warned(alloc: Global, control: &[u8], wanted: &[u8]) -> Result<bool, NoMem
 #[test]
 fn returned_mail_reads_as_its_row_says(rt: HostRuntime) -> Result<(), NoMemory> {
     assert!(rt; is_bounced(rt.alloc(), ONE, BOUNCE_OF_ONE, false)?);
+    assert!(rt; is_bounced(rt.alloc(), FOLDED, BOUNCE_OF_FOLDED, false)?);
     assert!(rt; is_bounced(rt.alloc(), NULL, DOUBLE_BOUNCE, true)?);
     assert!(rt; is_bounced(rt.alloc(), MANY, BOUNCE_OF_MANY, false)?);
     assert!(rt; is_bounced(rt.alloc(), LIST, BOUNCE_OF_A_LIST, false)?);
