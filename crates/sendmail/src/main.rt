@@ -34,8 +34,8 @@ const HELP: &[u8] = b"usage: sendmail -bt|-bs|-bp|-q|-qGname [-C file]
        sendmail --help|--version
 
   -bt      address test mode: answers each line of standard input
-  -bs      serves one SMTP session on standard input and output, and delivers
-           what is in the queue while the client says nothing
+  -bs      serves one SMTP session on standard input and output, and puts its
+           messages into the queue
   -bd      serves SMTP sessions at the port of DaemonPortOptions, and delivers
            what is in the queue while no client says anything
   -q30m    with -bd: how long a message waits at least for its next try, in
