@@ -18,7 +18,7 @@ enum Call {
 /// A call, a text, and its answer as `show_answer` writes it.
 type Row = (Call, &'static [u8], &'static [u8]);
 
-static ROWS: [Row; 55] = [
+static ROWS: [Row; 57] = [
     // By the operators `.:@[]`, where angles aren't checked, and where they are.
     (Plain, b"a\0b\x1fc\x7fd\ne", b"W:a W:b W:c W:d W:e"),
     (Plain, b"(\0\x7f\n<>@)a", b"W:a"),
