@@ -12,8 +12,8 @@ use std::alloc::Global;
 
 /// The header that an H line declares, by what follows the letter: `?flags?Name: template` or
 /// `Name: template`. `None` is a line whose template calls rulesets, or whose flags are a macro: it
-/// is ignored with a warning. `BadHeader` comes exactly where no colon stands behind the flags, or they aren't closed
-/// (Sendmail Installation and Operation Guide, "H: Define Header").
+/// is ignored with a warning. `BadHeader` comes exactly where no colon stands behind the flags, or
+/// they aren't closed (Sendmail Installation and Operation Guide, "H: Define Header").
 pub(crate) fn header(alloc: Global, text: &[u8]) -> Result<Option<HeaderLine>, LineStop>
     ensures { Reads result (fault_of_header text.now) (header_of text.now) }
 {
