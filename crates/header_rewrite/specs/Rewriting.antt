@@ -1,10 +1,11 @@
 -- Headers with rewritten addresses (Sendmail Installation and Operation Guide, R and S: rewriting
 -- rules; M: define mailer, its fields S and R; what is kept of a header is our own).
-use Rattle.std.specs.Prelude.{◌≡◌, ℕ, ◌+◌, List, [], ◌∷◌, ◌++◌, drop, slice_range, Option, Some, None, Ok}
-use Rattle.std.specs.List.{AllZip}
+use Rattle.std.specs.Prelude.{◌≡◌, ℕ, ◌+◌, List, [], ◌∷◌, ◌++◌, drop, slice_range, Option, Some, None, Ok, if◌then◌else◌, codes, refl}
+use Rattle.std.specs.List.{AllZip, list_all}
 use Rattle.mail_base.specs.declared.mailer.Mailer.{Mailer}
 use Rattle.mail_base.specs.declared.token.Token.{Token}
 use Rattle.mail_header.specs.declared.span.Span.{Span}
+use Rattle.mail_header.specs.Headers.{is_plain}
 use Rattle.mail_header.specs.Places.{places_of}
 use Rattle.ruleset_run.specs.Sites.{Site, Macros}
 use Rattle.ruleset_run.specs.declared.rewritten.Rewritten.{Rewritten}
@@ -21,10 +22,10 @@ abbrev pub address_at : List ℕ → Span → List ℕ
 address_at header place = slice_range header place.start (end_of place)
 
 -- what stands in a place afterwards: the text that the rulesets give, or the address as it was
--- where they refuse it or give the empty text
+-- where they refuse it, or give the empty text or one with a CR or LF
 abbrev pub put : List ℕ → Rewritten → List ℕ
 put address (Gives []) = address
-put address (Gives (b ∷ text)) = b ∷ text
+put address (Gives (b ∷ text)) = if list_all is_plain (b ∷ text) then b ∷ text else address
 put address (Refuses why) = address
 
 pub data Becomes (site : Site) (macros : Macros) (sets : List (List ℕ)) (address : List ℕ)
@@ -63,7 +64,8 @@ AreRewritten site macros mailer headers texts =
 abbrev pub AreIdle : Site → Macros → List (List ℕ) → Type 0
 AreIdle site macros sets = (tokens : List Token) → Through site macros sets tokens (Ok tokens)
 
--- an address cut into tokens and joined again, or as it was where it can't be cut or has none
+-- an address cut into tokens and joined again, or as it was where it can't be cut, has none, or is
+-- joined to more than one line
 abbrev pub rejoined : List ℕ → List ℕ → List ℕ
 rejoined operators address = put address (rewritten (cut operators address))
 
@@ -81,3 +83,8 @@ AreJoined operators header [] = Unit {0}
 AreJoined operators header (place ∷ places) =
     (rejoined operators (address_at header place) ≡ address_at header place)
     × AreJoined operators header places
+
+example : (put (codes "bob") (Gives (codes "bob@c")) ≡ codes "bob@c")
+    × (put (codes "bob") (Gives (codes "bob\r@c")) ≡ codes "bob")
+    × (put (codes "bob") (Gives []) ≡ codes "bob")
+example = (refl, refl, refl)

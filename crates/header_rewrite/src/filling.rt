@@ -1,4 +1,6 @@
 ghost use Rattle.std.specs.Prelude.{◌≡◌, ◌≤◌, IfOk, OnOk, length, slice_range};
+ghost use Rattle.std.specs.List.{list_all};
+ghost use Rattle.mail_header.specs.Headers.{is_plain};
 ghost use Rattle.mail_header.specs.Places.{AreApart, places_of};
 ghost use Rattle.header_rewrite.specs.Rewriting as spec;
 ghost use Rattle.header_rewrite.specs.inner.Filling.{Adds, FillsBy};
@@ -103,11 +105,24 @@ fn put<'a>(address: &'a Text, answer: &'a Rewritten) -> &'a [u8]
 {
     match answer {
         Rewritten::Gives(text) => {
-            if text.is_empty() {
+            if text.is_empty() || !is_line(text.bytes()) {
                 return address.bytes();
             }
             text.bytes()
         }
         Rewritten::Refuses(_) => address.bytes(),
     }
+}
+
+// Whether a text has neither CR nor LF.
+fn is_line(text: &[u8]) -> bool
+    ensures { result ≡ list_all is_plain text.now }
+{
+    text.iter().all(|byte| is_plain(*byte))
+}
+
+fn is_plain(byte: u8) -> bool
+    ensures { result ≡ is_plain byte }
+{
+    byte != b'\r' && byte != b'\n'
 }

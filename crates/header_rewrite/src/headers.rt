@@ -15,8 +15,8 @@ use std::alloc::Global;
 /// rewriting rules; M: define mailer). Each address at its place in a header with senders goes
 /// through sets 3, 1, that of the mailer's field S for headers, and 4, and one in a header with
 /// recipients through sets 3, 2, that of its field R for headers, and 4. It is joined without
-/// blanks. Where its rewriting is refused or gives nothing it stays. All other bytes stay, folds
-/// among them, and so do all other headers.
+/// blanks. Where its rewriting is refused, or gives nothing or a line end, it stays. All other bytes
+/// stay, folds among them, and so do all other headers.
 pub fn rewritten(
     config: &Config,
     maps: &Maps,

@@ -147,7 +147,7 @@ pub(crate) static APPENDIX: [Row; 16] = [
 ];
 
 /// Folds, comments, quotes and angles, and what leaves a header as it is.
-pub(crate) static OTHERS: [Row; 36] = [
+pub(crate) static OTHERS: [Row; 39] = [
     ("hub", "From:", "From:"),
     ("hub", "From: ", "From: "),
     (
@@ -206,6 +206,17 @@ pub(crate) static OTHERS: [Row; 36] = [
     ("hub", "From: bob@c, (eve", "From: bob@c, (eve"),
     ("hub", "From: bob@c\\", "From: bob@c\\"),
     ("hub", "From: bob\\,eve", "From: bob\\,eve@hub.example"),
+    (
+        "hub",
+        "From: <bob\\\r\n x@c>, eve",
+        "From: <bob\\\r\n x@c>, eve@hub.example",
+    ),
+    ("plain", "To: <ann\\\n x@c>", "To: <ann\\\n x@c>"),
+    (
+        "hub",
+        "From: \"bob\r\n smith\"@c",
+        "From: \"bob\r\n smith\"@c",
+    ),
     (
         "hub",
         "From: \"bob smith\"@c",
