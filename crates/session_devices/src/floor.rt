@@ -15,7 +15,8 @@ use std::io::{ErrorKind, Read, Write};
 /// One session on a reader and a writer, or, once it began at a port, many there. A floor at a port
 /// that shares what moves with the devices of deliveries waits while these work as long as they let
 /// it. What is sent behind a change of the queue waits until that is on the disk, which several
-/// sessions wait for together; a turn fails where it doesn't get there.
+/// sessions wait for together; a turn fails where it doesn't get there. A change for which nothing
+/// waits gets there in the same time.
 pub struct SystemFloor<'a, R, W> {
     site: Site<'a, R, W>,
     begun: Begun,
@@ -191,8 +192,9 @@ impl<R: Read, W: Write> Floor for SystemFloor<'_, R, W> {
     }
 }
 
-// A turn at a port. What output waits for is brought to the disk before it, where it is due, and
-// behind it, where it brought nothing, so that no reply waits for a delivery.
+// A turn at a port. What waits for the disk is brought there before it, where it is due, and behind
+// it, where it brought nothing, so that no reply waits for a delivery; and in any case behind a
+// Stop, since no turn may follow.
 fn port_turn(
     rt: &HostRuntime,
     port: &mut Port,
@@ -204,16 +206,27 @@ fn port_turn(
 {
     if port.is_due() || (port.is_held() && is_clear(motion)) {
         bring(rt, port, motion)?;
+    } else if !is_clear(motion) {
+        port.gather();
     }
     if let Some(millis) = pause_of(motion) {
         port.hasten(millis);
     }
     let turn = port.turn(rt, buf).map_err(|_| Failed)?;
     note(motion, turn);
-    if matches!(turn, Turn::Idle | Turn::Stop) && (port.is_held() || port.is_still()) {
+    if is_time(port, turn) {
         bring(rt, port, motion)?;
     }
     Ok(turn)
+}
+
+// Whether it is time to bring to the disk what waits for it, behind such a turn.
+fn is_time(port: &Port, turn: Turn) -> bool {
+    match turn {
+        Turn::Stop => true,
+        Turn::Idle => port.is_held() || port.is_still(),
+        _ => false,
+    }
 }
 
 // Brings to the disk what was changed in the queue, and lets go what waits for it.

@@ -19,7 +19,7 @@ pub struct Limits {
     pub parting: usize,
     /// How long nobody is let in after there were no descriptors or no memory for one more.
     pub rest: u64,
-    /// How long output waits at most for the disk while other sessions bring something.
+    /// How long anything waits at most for the disk while sessions bring something.
     pub held: u64,
     /// How long what waits is written at the run's end.
     pub farewell: u64,

@@ -8,7 +8,7 @@ use crate::link::Link;
 use crate::listening::{is_over, lacks_room, listen};
 use crate::parting::Parting;
 use crate::peer::put_peer;
-use crate::waiting::{asking, is_ready, longer, millis_since};
+use crate::waiting::{asking, is_ready, longer, millis_since, turned};
 use libc::net::POLLIN;
 use libc::types::pollfd;
 use link_edge::Turn;
@@ -57,7 +57,7 @@ pub struct Port {
     busy: u32,
     /// Until when nobody is let in.
     rested: u64,
-    /// The output that waits for the disk.
+    /// What waits for the disk.
     held: Gathering,
 }
 
@@ -177,14 +177,19 @@ impl Port {
             return Err(Failed);
         };
         if is_held {
-            self.held.begin(now);
+            self.held.begin_output(now);
             open.link.hold(bytes, most)
         } else {
             open.link.send(bytes, now, most)
         }
     }
 
-    /// Whether output waits for the disk long enough.
+    /// From now on a change of the queue waits for the disk, where nothing did.
+    pub fn gather(&mut self) {
+        self.held.begin(self.now);
+    }
+
+    /// Whether output, or a change of the queue, waits for the disk long enough.
     pub fn is_due(&self) -> bool {
         self.held.is_due(self.now, self.limits.held)
     }
@@ -194,21 +199,21 @@ impl Port {
         self.wait > STILL
     }
 
-    /// All is on the disk that output waits for: it goes out.
+    /// All is on the disk that waited for it: output goes out, also where no turn follows.
     pub fn release(&mut self) {
-        if !self.held.end() {
-            return;
-        }
-        let now = self.now;
-        for session in &mut self.sessions {
-            if session.link.release() {
-                // What fails is found when it is next looked.
-                let _ = session.link.flush(now);
+        if self.held.end() {
+            let now = self.now;
+            for session in &mut self.sessions {
+                if session.link.release() {
+                    // What fails is found when it is next looked.
+                    let _ = session.link.flush(now);
+                }
+            }
+            for parting in &mut self.parting {
+                parting.release();
             }
         }
-        for parting in &mut self.parting {
-            parting.release();
-        }
+        self.let_go();
     }
 
     /// The sessions whose output waits for the disk end without it.
@@ -220,7 +225,7 @@ impl Port {
 
     /// Whether output waits for the disk.
     pub fn is_held(&self) -> bool {
-        self.held.is_there()
+        self.held.has_output()
     }
 
     /// The moment, in milliseconds since the start.
@@ -492,9 +497,4 @@ impl Port {
             let _ = self.parting.push(Parting::new(link));
         }
     }
-}
-
-// The place so many steps behind the first one, of so many places in a ring.
-fn turned(first: usize, step: usize, places: usize) -> usize {
-    first.saturating_add(step).checked_rem(places).unwrap_or(0)
 }

@@ -36,3 +36,8 @@ pub fn millis_since(rt: &HostRuntime, start: Instant) -> io::Result<u64> {
 pub fn longer(wait: i32, longest: i32) -> i32 {
     wait.saturating_mul(2).saturating_add(1).min(longest)
 }
+
+/// The place so many steps behind the first one, of so many places in a ring.
+pub fn turned(first: usize, step: usize, places: usize) -> usize {
+    first.saturating_add(step).checked_rem(places).unwrap_or(0)
+}

@@ -7,7 +7,8 @@ use shared_devices::{Descriptor, Joint, Motion, Move};
 use std::io::{ErrorKind, Read, Write};
 use std::net::TcpStream;
 use std::test::Fail;
-use std::{fs, io};
+use std::time::Duration;
+use std::{fs, io, thread};
 
 type HeldFloor<'a> = SystemFloor<'a, &'static [u8], Vec<u8>>;
 
@@ -41,6 +42,11 @@ enum Step {
     Idles,
     /// The next turn fails.
     Fails,
+    /// The next turn is a Stop.
+    Stops,
+    /// Bytes come one by one, each of which the next turns bring, until the control text has its
+    /// name.
+    KeepsAsking,
     HangsUp,
     /// All sessions are ended.
     Finishes,
@@ -50,12 +56,15 @@ enum Step {
 #[derive(Clone, Copy)]
 struct Scene {
     name: &'static str,
+    /// How many sessions bring the floor to a Stop; 0 are none.
+    most: u64,
     steps: &'static [Step],
 }
 
 const SCENES: &[Scene] = &[
     Scene {
         name: "what rests on a change comes behind it",
+        most: 0,
         steps: &[
             Step::Asks,
             Step::Commits,
@@ -69,6 +78,7 @@ const SCENES: &[Scene] = &[
     },
     Scene {
         name: "what was said before a change doesn't wait, and all behind it does",
+        most: 0,
         steps: &[
             Step::Asks,
             Step::Sends(b"354 go\r\n"),
@@ -86,6 +96,7 @@ const SCENES: &[Scene] = &[
     },
     Scene {
         name: "what rests on nothing new doesn't wait",
+        most: 0,
         steps: &[
             Step::Asks,
             Step::Commits,
@@ -96,7 +107,47 @@ const SCENES: &[Scene] = &[
         ],
     },
     Scene {
+        name: "a change comes to the disk while nothing waits for it but pieces come",
+        most: 0,
+        steps: &[
+            Step::Asks,
+            Step::Commits,
+            Step::IsNamed(false),
+            Step::KeepsAsking,
+        ],
+    },
+    Scene {
+        name: "a stop lets all go, since no turn may follow",
+        most: 1,
+        steps: &[
+            Step::Asks,
+            Step::Commits,
+            Step::Sends(b"250 w1\r\n"),
+            Step::Sends(b"221 bye\r\n"),
+            Step::HangsUp,
+            Step::HearsNothing,
+            Step::IsNamed(false),
+            Step::Stops,
+            Step::IsNamed(true),
+            Step::Hears(b"250 w1\r\n221 bye\r\n"),
+            Step::Hears(b""),
+        ],
+    },
+    Scene {
+        name: "a stop brings to the disk what nothing waits for",
+        most: 1,
+        steps: &[
+            Step::HangsUp,
+            Step::Commits,
+            Step::IsNamed(false),
+            Step::Stops,
+            Step::IsNamed(true),
+            Step::Hears(b""),
+        ],
+    },
+    Scene {
         name: "an end brings all to the disk",
+        most: 0,
         steps: &[
             Step::Asks,
             Step::Commits,
@@ -109,6 +160,7 @@ const SCENES: &[Scene] = &[
     },
     Scene {
         name: "what rests on a change that came to nothing is never sent",
+        most: 0,
         steps: &[
             Step::Asks,
             Step::Breaks,
@@ -134,7 +186,7 @@ fn wrong_in_scene(rt: &HostRuntime, scene: &Scene) -> io::Result<Option<usize>> 
     }
     let writer = Vec::new(rt.alloc());
     let mut floor = SystemFloor::new(*rt, b"".as_slice(), writer, None, LIMITS, Some(&motion));
-    let mut peer = joined(rt, &mut floor)?;
+    let mut peer = joined(rt, &mut floor, scene.most)?;
     for (place, step) in scene.steps.iter().enumerate() {
         if !goes(rt, &motion, &mut floor, &mut peer, *step) {
             return Ok(Some(place));
@@ -153,11 +205,11 @@ fn opens(rt: &HostRuntime, motion: &Motion) -> bool {
 }
 
 // The peer of session 1 of a floor that begins.
-fn joined(rt: &HostRuntime, floor: &mut HeldFloor<'_>) -> io::Result<TcpStream> {
+fn joined(rt: &HostRuntime, floor: &mut HeldFloor<'_>, most: u64) -> io::Result<TcpStream> {
     let Ok(place) = place(rt) else {
         return Err(io::Error::from(ErrorKind::OutOfMemory));
     };
-    if floor.begin(&place, 0).is_err() {
+    if floor.begin(&place, most).is_err() {
         return Err(io::Error::from(ErrorKind::NotConnected));
     }
     let peer = TcpStream::connect(rt, ("127.0.0.1", floor.port()?))?;
@@ -189,9 +241,11 @@ fn goes(
         Step::Sends(bytes) => sends(rt, floor, bytes),
         Step::Hears(bytes) => peer.set_nonblocking(false).is_ok() && reads(peer, bytes),
         Step::HearsNothing => hears_nothing(peer),
-        Step::IsNamed(named) => fs::exists(rt, CONTROL_PATH).is_ok_and(|there| there == named),
+        Step::IsNamed(named) => is_named(rt) == named,
         Step::Idles => floor.turn(&mut [0u8; 64]) == Ok(Turn::Idle),
         Step::Fails => floor.turn(&mut [0u8; 64]).is_err(),
+        Step::Stops => floor.turn(&mut [0u8; 64]) == Ok(Turn::Stop),
+        Step::KeepsAsking => keeps_asking(rt, floor, peer),
         Step::HangsUp => {
             floor.hang_up(1);
             true
@@ -201,6 +255,24 @@ fn goes(
             true
         }
     }
+}
+
+fn is_named(rt: &HostRuntime) -> bool {
+    fs::exists(rt, CONTROL_PATH).is_ok_and(|there| there)
+}
+
+// Whether the control text gets its name while a byte comes each millisecond, for seconds at most.
+fn keeps_asking(rt: &HostRuntime, floor: &mut HeldFloor<'_>, peer: &mut TcpStream) -> bool {
+    for _ in 0..2000u32 {
+        if peer.write_all(b"x").is_err() || !brings(floor, Turn::Piece(1, 1)) {
+            return false;
+        }
+        if is_named(rt) {
+            return true;
+        }
+        thread::sleep(rt, Duration::from_millis(1));
+    }
+    false
 }
 
 fn commits(motion: &Motion) -> bool {
