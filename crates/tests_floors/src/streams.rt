@@ -3,6 +3,8 @@ use mail_edge::{Files, Sink, Source};
 use session_devices::{DiskFiles, InputStream, OutputStream, put_peer};
 use std::io::{ErrorKind, Read, Write};
 use std::net::IpAddr;
+use std::os::fd::AsRawFd;
+use std::os::unix::fs::symlink;
 use std::test::Fail;
 use std::{fs, io};
 
@@ -127,20 +129,77 @@ fn is_so(there: &Option<Text>, wanted: Option<&[u8]>) -> bool {
     }
 }
 
-// What is read of a file; `None` where it isn't there.
-fn is_read(rt: &HostRuntime, name: &[u8], wanted: Option<&[u8]>) -> Result<bool, EdgeFault> {
+// Whether the next file that is read is so; `None` where it isn't there.
+fn is_read(
+    rt: &HostRuntime,
+    files: &mut DiskFiles<'_, HostRuntime>,
+    name: &[u8],
+    wanted: Option<&[u8]>,
+) -> Result<bool, EdgeFault> {
     let name = Text::of(rt.alloc(), name)?;
-    let there = DiskFiles::new(rt).read(rt.alloc(), &name)?;
+    let there = files.read(rt.alloc(), &name)?;
     Ok(is_so(&there, wanted))
 }
 
+// The same of the first file, and of one behind it.
+fn is_both(rt: &HostRuntime, name: &[u8], wanted: Option<&[u8]>) -> Result<bool, EdgeFault> {
+    let mut files = DiskFiles::new(rt);
+    let is_first = is_read(rt, &mut files, name, wanted)?;
+    Ok(is_first && is_read(rt, &mut files, name, wanted)?)
+}
+
+/// The file of the test, and a link that leads to itself.
+const FILE: &str = "/tmp/sendmail-files-of-a-disk";
+
+const RING: &str = "/tmp/sendmail-ring-of-a-disk";
+
+/// Names that lead to no file.
+const ABSENT: &[&[u8]] = &[
+    b"",
+    b"/tmp/sendmail-no-file-of-a-disk",
+    b"/tmp/sendmail-files-of-a-disk/x",
+    b"/tmp/sendmail-ring-of-a-disk",
+    b"/tmp",
+    b"/tmp/a\xff",
+    b"/tmp/a\0b",
+    &[b'x'; 256],
+    &[b'/'; 5000],
+];
+
 #[test]
 fn a_disk_has_files(rt: HostRuntime) -> Result<(), Fail> {
-    fs::write(&rt, "/tmp/sendmail-files-of-a-disk", b"S5\xff\n".as_slice())?;
-    let name = b"/tmp/sendmail-files-of-a-disk";
-    assert_eq!(rt; is_read(&rt, name, Some(b"S5\xff\n")), Ok(true));
-    fs::remove_file(&rt, "/tmp/sendmail-files-of-a-disk")?;
-    assert_eq!(rt; is_read(&rt, name, None), Ok(true));
-    assert_eq!(rt; is_read(&rt, b"/tmp", None), Err(EdgeFault::Failed));
+    fs::write(&rt, FILE, b"S5\xff\n".as_slice())?;
+    assert_eq!(rt; is_both(&rt, FILE.as_bytes(), Some(b"S5\xff\n")), Ok(true));
+    symlink(&rt, RING, RING)?;
+    for name in ABSENT {
+        assert_eq!(rt; is_both(&rt, name, None), Ok(true));
+    }
+    fs::remove_file(&rt, RING)?;
+    fs::remove_file(&rt, FILE)?;
+    assert_eq!(rt; is_both(&rt, FILE.as_bytes(), None), Ok(true));
+    Ok(())
+}
+
+// Whether a pipe and a device are read as the first file, and aren't files behind it.
+fn is_first_alone(rt: &HostRuntime) -> io::Result<bool> {
+    let (reader, mut writer) = io::pipe(rt)?;
+    writer.write_all(b"Cwmx")?;
+    drop(writer);
+    let mut name = Vec::new(rt.alloc());
+    write!(name, "/dev/fd/{}", reader.as_raw_fd())?;
+    Ok(
+        [(name.as_slice(), b"Cwmx".as_slice()), (b"/dev/null", b"")]
+            .iter()
+            .all(|(name, wanted)| {
+                let mut files = DiskFiles::new(rt);
+                is_read(rt, &mut files, name, Some(wanted)) == Ok(true)
+                    && is_read(rt, &mut files, name, None) == Ok(true)
+            }),
+    )
+}
+
+#[test]
+fn the_first_file_may_be_a_pipe(rt: HostRuntime) -> Result<(), Fail> {
+    assert!(rt; is_first_alone(&rt)?);
     Ok(())
 }
