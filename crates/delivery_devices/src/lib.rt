@@ -9,4 +9,4 @@ mod spawner;
 
 pub use dialer::SystemDialer;
 pub use patience::{HASTE, PATIENCE, Patience, haste_of};
-pub use spawner::SystemSpawner;
+pub use spawner::{SystemSpawner, ignores_ends};

@@ -7,13 +7,18 @@ use spawn_edge::Spawner;
 use std::alloc::Global;
 use std::os::unix::process::ExitStatusExt;
 use std::process::ExitStatus;
-use std::thread;
 use std::time::Duration;
+use std::{fs, thread};
 
 /// What a child finds in its environment, and where it starts.
 const ENVIRONMENT: &[u8] = b"AGENT=sendmail\0";
 
 const DIRECTORY: &[u8] = b"/";
+
+/// Where the system tells of this process, and the line with the signals that it ignores.
+const STATUS: &str = "/proc/self/status";
+
+const IGNORED: &[u8] = b"SigIgn:";
 
 /// The longest wait of a poll, in milliseconds.
 const LONGEST_WAIT: u32 = 5;
@@ -28,12 +33,14 @@ struct Child {
 /// Programs of the system. A child's standard input is whole before it starts: a pipe that holds it
 /// where it fits into one, and otherwise a file with no name. Its standard output and error go to
 /// /dev/null, and it has no other descriptor. A start fails where the program can't be run, where an
-/// argument has a NUL, or where memory, descriptors or room for the input are wanting. What was
-/// changed in the queue is on the disk before it.
+/// argument has a NUL, where memory, descriptors or room for the input are wanting, or where the
+/// system wouldn't tell how a child ends. What was changed in the queue is on the disk before it.
 ///
 /// A poll never waits for a child. Where nothing was done since, and as many polls as there are
 /// children found theirs running, the last of them waits 1 to 5 milliseconds, or lets the floor wait
-/// that long for its sessions, so that a run with nothing else to do doesn't spin.
+/// that long for its sessions, so that a run with nothing else to do doesn't spin. Where the floor
+/// wasn't asked since the last time, as behind a Stop, it waits itself, and what was changed in the
+/// queue is on the disk.
 /// A child that a signal ended is a fault of the poll that finds that.
 pub struct SystemSpawner<'a> {
     rt: HostRuntime,
@@ -89,6 +96,9 @@ impl<'a> SystemSpawner<'a> {
         self.motion.note_move();
         self.motion.note_work();
         self.motion.unsynced().settle()?;
+        if self.started == 0 && is_deaf(&self.rt) {
+            return Err(Failed);
+        }
         self.children.reserve(1).map_err(|_| Failed)?;
         let words = words_of(self.rt.alloc(), program, args)?;
         let pid = started(program, &words, input)?;
@@ -146,9 +156,11 @@ impl<'a> SystemSpawner<'a> {
             .saturating_mul(2)
             .saturating_add(1)
             .min(LONGEST_WAIT);
-        if self.motion.has_floor() {
-            self.motion.note_pause(self.wait);
-        } else {
+        // The floor takes a pause as it is asked.
+        let is_left = self.motion.take_work() != Some(0);
+        self.motion.note_work();
+        self.motion.note_pause(self.wait);
+        if is_left || !self.motion.has_floor() {
             // Where that fails, the next change or start does.
             let _ = self.motion.unsynced().settle();
             thread::sleep(&self.rt, Duration::from_millis(u64::from(self.wait)));
@@ -168,6 +180,31 @@ impl Spawner for SystemSpawner<'_> {
         let went = self.poll(child);
         counted(&mut self.faults, went)
     }
+}
+
+// Whether this process ignores the signal of a child's end: then the system forgets how each ended.
+fn is_deaf(rt: &HostRuntime) -> bool {
+    match fs::read(rt, STATUS) {
+        Ok(status) => ignores_ends(&status),
+        Err(_) => false,
+    }
+}
+
+/// Whether a process of which the system tells this status ignores the signal of a child's end.
+pub fn ignores_ends(status: &[u8]) -> bool {
+    for line in status.split(|byte| *byte == b'\n') {
+        if let Some(mask) = line.strip_prefix(IGNORED) {
+            // The signal's bit is the first of the fifth digit from the right.
+            return match mask.iter().rev().nth(4) {
+                Some(digit) => matches!(
+                    digit,
+                    b'1' | b'3' | b'5' | b'7' | b'9' | b'b' | b'd' | b'f'
+                ),
+                None => false,
+            };
+        }
+    }
+    false
 }
 
 // The words that a program gets, each ended by a NUL: its path as its own name, and its arguments.

@@ -1,13 +1,13 @@
 use crate::times::lowest;
-use delivery_devices::SystemSpawner;
+use delivery_devices::{SystemSpawner, ignores_ends};
 use mail_base::{Failed, NoMemory, Seq, Text};
-use shared_devices::Motion;
+use shared_devices::{Descriptor, Joint, Motion};
 use spawn_edge::Spawner;
 use std::alloc::Global;
 use std::net::TcpListener;
 use std::test::Fail;
-use std::time::Duration;
-use std::{fs, thread};
+use std::time::{Duration, Instant};
+use std::{fs, io, thread};
 
 /// What a program reads.
 #[derive(Clone, Copy)]
@@ -347,4 +347,70 @@ fn the_floor_waits_once_for_all_children(rt: HostRuntime) -> Result<(), Fail> {
     assert!(rt; pauses(&mut spawner, &motion));
     assert!(rt; (1..3u64).all(|child| ends_soon(&rt, &mut spawner, child)));
     Ok(())
+}
+
+/// A directory of a queue, and a file in it.
+const QUEUE: &str = "/tmp/sendmail-children";
+
+const DRAFT: &[u8] = b"/tmp/sendmail-children/tfw1";
+
+// Whether a file waits for the disk, in that directory.
+fn waits(rt: &HostRuntime, motion: &Motion) -> bool {
+    let path = Text::of(rt.alloc(), QUEUE.as_bytes());
+    let (Ok(path), Ok(open)) = (path, Descriptor::to_dir(QUEUE.as_bytes())) else {
+        return false;
+    };
+    motion.unsynced().add_dir(path, open) == Ok(0)
+        && motion.unsynced().write(0, DRAFT, b"V1\n").is_ok()
+        && !motion.unsynced().is_clear()
+}
+
+// Whether ten polls of a child that runs take some time, and bring to the disk what waits.
+fn rests(rt: &HostRuntime, spawner: &mut SystemSpawner<'_>, motion: &Motion) -> io::Result<bool> {
+    let start = Instant::now(rt)?;
+    let runs = (0..10u32).all(|_| spawner.finished(1) == Ok(None));
+    let took = start.elapsed(rt)?.as_millis();
+    Ok(runs && took >= 20 && motion.unsynced().is_clear())
+}
+
+#[test]
+fn polls_wait_where_nobody_asks_the_floor(rt: HostRuntime) -> Result<(), Fail> {
+    if fs::exists(&rt, QUEUE)? {
+        fs::remove_dir_all(&rt, QUEUE)?;
+    }
+    fs::create_dir_all(&rt, QUEUE)?;
+    let motion = Motion::late(rt.alloc(), Joint::none());
+    motion.note_floor();
+    let mut spawner = SystemSpawner::new(rt, &motion);
+    let none = Text::new(rt.alloc());
+    start(&mut spawner, rt.alloc(), &LONG, &none)?;
+    assert!(rt; waits(&rt, &motion));
+    assert!(rt; rests(&rt, &mut spawner, &motion)?);
+    assert!(rt; ends_soon(&rt, &mut spawner, 1));
+    fs::remove_dir_all(&rt, QUEUE)?;
+    Ok(())
+}
+
+/// What the system tells of a process, and whether it ignores its children's ends.
+const STATUSES: &[(&[u8], bool)] = &[
+    (
+        b"Name:\tsh\nSigIgn:\t0000000000010000\nSigCgt:\t0000000000000000\n",
+        true,
+    ),
+    (b"SigIgn:\tfffffffe7fffffff\n", true),
+    (
+        b"SigBlk:\t0000000000010000\nSigIgn:\t0000000000001000\n",
+        false,
+    ),
+    (b"SigIgn:\tfffffffffffeffff\n", false),
+    (b"SigIgn:\t1\n", false),
+    (b"SigCgt:\t0000000000010000\n", false),
+    (b"", false),
+];
+
+#[test]
+fn who_ignores_the_ends_of_children_is_known(rt: HostRuntime) {
+    for (status, ignores) in STATUSES {
+        assert_eq!(rt; ignores_ends(status), *ignores);
+    }
 }
