@@ -42,7 +42,7 @@ pub struct Books {
     whole: u64,
     /// How many times are left until the time of a file is taken again.
     turns: u32,
-    /// Whether something that was told as done came to nothing.
+    /// Whether something that was told as done came to nothing, or may have: a sync failed.
     is_broken: bool,
 }
 
@@ -81,9 +81,12 @@ impl Books {
         self.changes
     }
 
-    /// Whether nothing waits but what tidied.
+    /// Whether nothing waits but what tidied, and nothing came to nothing.
     pub fn is_clear(&self) -> bool {
-        self.files.is_empty() && self.renames.is_empty() && self.tidies.is_empty()
+        !self.is_broken
+            && self.files.is_empty()
+            && self.renames.is_empty()
+            && self.tidies.is_empty()
     }
 
     /// Adds a directory that is open, and gives its place.
@@ -149,12 +152,13 @@ impl Books {
             return Ok(());
         }
         self.settle()?;
+        self.settle_beside(dir)?;
         make(&mut self.dirs, dir, asked)?;
         if tidies {
-            Ok(())
-        } else {
-            settle_dirs(&mut self.dirs)
+            return Ok(());
         }
+        let went = settle_dirs(&mut self.dirs);
+        self.noted(went)
     }
 
     /// Brings to the disk what waits, and in that order: files, the renamings that decide, and
@@ -167,8 +171,7 @@ impl Books {
             return Ok(());
         }
         let went = self.bring();
-        self.is_broken = went.is_err();
-        went
+        self.noted(went)
     }
 
     // Begins a change of that path: what waits there comes before it, and so does what was changed
@@ -181,7 +184,22 @@ impl Books {
         if self.touches(path) {
             self.settle()?;
         }
-        settle_others(&mut self.dirs, dir)
+        self.settle_beside(dir)
+    }
+
+    // Waits until what was changed in other directories has reached the disk.
+    fn settle_beside(&mut self, dir: usize) -> Result<(), Failed> {
+        let went = settle_others(&mut self.dirs, dir);
+        self.noted(went)
+    }
+
+    // Notes that something failed behind which nobody knows what the disk has. The system may tell
+    // such an error only once.
+    fn noted(&mut self, went: Result<(), Failed>) -> Result<(), Failed> {
+        if went.is_err() {
+            self.is_broken = true;
+        }
+        went
     }
 
     // Keeps a change until the books are settled, and says whether that could be.

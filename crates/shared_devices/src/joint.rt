@@ -7,7 +7,7 @@ use arrayvec::ArrayVec;
 pub const SYNC: &[u8] = b"SENDMAIL_SYNC";
 
 /// The program of coreutils. With `-f` it syncs the file system of the file that it is given, and
-/// its status is 0 where that went well.
+/// its status is 0 where that went well: Linux before 5.8 doesn't tell it of bytes that were lost.
 const PROGRAM: &[u8] = b"/bin/sync";
 
 const ENVIRONMENT: &[u8] = b"AGENT=sendmail\0";

@@ -14,7 +14,8 @@ use std::cell::RefCell;
 /// then no name has changed, so that what a stop leaves is as if it had come before. Then all files
 /// are synced, by one sync of their file system where that takes less time; then their names change,
 /// in order; then the directories are synced. So whoever tells somebody something that rests on such a
-/// change settles first. Where that fails all later calls fail.
+/// change settles first. Where that fails, or a sync of a directory does, nothing is clear any more,
+/// and all later changes and settlings fail.
 #[derive(Drop)]
 pub struct Unsynced {
     books: RefCell<Books>,
@@ -43,7 +44,7 @@ impl Unsynced {
         }
     }
 
-    /// Whether nothing waits but what tidied.
+    /// Whether nothing waits but what tidied, and nothing came to nothing.
     pub fn is_clear(&self) -> bool {
         match self.books.try_borrow() {
             Ok(books) => books.is_clear(),

@@ -1,7 +1,7 @@
 use crate::queues::{Answer, FAULT, Pace, Step, answer, are_names, make_empty, motion_of};
-use mail_base::{Seq, Text};
+use mail_base::{EdgeFault, Seq, Text};
 use queue_devices::{QueueDirs, QueueView};
-use shared_devices::{Joint, Motion};
+use shared_devices::{Descriptor, Joint, Motion, Move};
 use spool_disk::Spool;
 use std::alloc::Global;
 use std::test::Fail;
@@ -148,6 +148,27 @@ fn has(alloc: Global, wanted: &[u8]) -> Answer {
     Ok(are_names(names.items(), wanted))
 }
 
+// Whether a sync of a directory that fails is the last of all: nothing is clear then, nothing is
+// settled, and nothing is changed. The first of two directories is a file that can't be synced. What
+// tidies there waits for the next change in the second, which writes or takes away; else it doesn't.
+fn ends_all(alloc: Global, pace: Pace, tidies: bool, writes: bool) -> Result<bool, EdgeFault> {
+    let motion = motion_of(alloc, pace);
+    let books = motion.unsynced();
+    let first = books.add_dir(Text::of(alloc, b"first")?, Descriptor::null()?)?;
+    let second = books.add_dir(Text::of(alloc, b"second")?, Descriptor::null()?)?;
+    let asked = Move::Remove(b"/tmp/sendmail-unsynced");
+    let begun = books.is_clear() && books.settle().is_ok();
+    let changed = books.change(first, asked, None, tidies).is_ok();
+    let went = if writes {
+        books.write(second, b"/tmp/sendmail-unsynced", b"mail")
+    } else {
+        books.change(second, asked, None, true)
+    };
+    let again = books.change(second, asked, None, true);
+    let ended = !books.is_clear() && books.settle().is_err() && again.is_err();
+    Ok(begun && changed == tidies && went.is_err() && ended)
+}
+
 // Whether that program syncs a directory, twice, and is there behind that.
 fn syncs(program: &[u8], dir: &[u8]) -> (bool, bool, bool) {
     let mut joint = Joint::at(program);
@@ -164,6 +185,15 @@ fn a_program_that_cannot_sync_is_given_up(rt: HostRuntime) {
     assert_eq!(rt; syncs(b"/bin/false", b"/tmp"), fails);
     assert_eq!(rt; syncs(b"/tmp/no-program", b"/tmp"), fails);
     assert_eq!(rt; syncs(b"", b"/tmp"), fails);
+}
+
+#[test]
+fn a_directory_that_cannot_be_synced_ends_all(rt: HostRuntime) {
+    for pace in [Pace::Prompt, Pace::Late] {
+        for (tidies, writes) in [(true, true), (true, false), (false, true), (false, false)] {
+            assert_eq!(rt; ends_all(rt.alloc(), pace, tidies, writes), Ok(true));
+        }
+    }
 }
 
 #[test]
