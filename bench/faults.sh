@@ -2,9 +2,10 @@
 # Serves one message by the built program while strace lets each call of a kind fail in turn. A signal (EINTR) in any
 # of them must change nothing. A disk without room (ENOSPC in a write to the queue), and an error in a sync, in a close of
 # a file of the queue or in the renaming, must be status 75 with no 250 for the message, and the message's control
-# file may be there only where the renaming was made. The syncs of a message must be those of its body, of its control
-# text and of the directory, in this order. A program must get its text where no pipe can be had for that, or none with
-# room (EAGAIN in its write). It ends with status 1 otherwise. Build the program first, by `make run`.
+# file may be there only where the renaming was made. The syncs must be those of the directory as it is opened, and then
+# of the message's body, of its control text and of the directory, in this order. A program must get its text where no
+# pipe can be had for that, or none with room (EAGAIN in its write). It ends with status 1 otherwise. Build the program
+# first, by `make run`.
 # It wants strace. This is no part of the gate.
 set -euo pipefail
 . "$(dirname "$0")/session.sh"
@@ -46,10 +47,11 @@ failed() {
 serve -e trace=fsync
 cp "$work/replies" "$work/wanted"
 [ "$status" = 0 ] && grep -q '^250 2.0.0 w' "$work/wanted" || failed 'no fault'
-[ "$(sed -n 's/^fsync([0-9]*<\(.*\)>).*/\1/p' "$work/calls")" = "$queue/dfw000000000001
+[ "$(sed -n 's/^fsync([0-9]*<\(.*\)>).*/\1/p' "$work/calls")" = "$queue
+$queue/dfw000000000001
 $queue/tfw000000000001
 $queue" ] || failed "$(cat "$work/calls")"
-echo 'syncs of a message: df, tf, directory'
+echo 'syncs: the directory as it is opened; of a message df, tf, directory'
 
 for kind in read write openat fsync poll close getdents64; do
     count=0
@@ -77,7 +79,7 @@ while read -r kind error fits renamed; do
     echo "$error in each of $count calls of $kind: status 75, and no 250"
 done << 'ROWS'
 write ENOSPC mqueue/[dt]f none
-fsync EIO . 3
+fsync EIO . 4
 close EIO mqueue/[dt]f none
 rename EIO . none
 ROWS

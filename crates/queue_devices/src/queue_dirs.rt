@@ -15,14 +15,14 @@ use told_devices::Look;
 
 /// Directories of a disk as a spool. Their files' names may have any bytes but NUL and `/`.
 ///
-/// A directory is opened and locked at its first use, and stays so to the end, so that it has one
-/// owner; one that another opening has locked is a fault, as are a directory that is absent, a file
-/// larger than 67,108,864 bytes and a disk without room. A directory that can't be opened or locked
-/// has a line on standard error. A file that is written belongs to its owner alone. It is on the
-/// disk before the call answers, and so is a change of names, unless the devices of its run are late
-/// (`Unsynced`). But what tidies a finished entry, its control file's last name and the removal of
-/// its body, waits for the next change of names there, and comes to the disk before anything is
-/// changed in another directory.
+/// A directory is opened, locked and synced at its first use, and stays locked to the end, so that it
+/// has one owner, and what the owner before it renamed is on the disk; one that another opening has
+/// locked is a fault, as are a directory that is absent, a file larger than 67,108,864 bytes and a
+/// disk without room. A directory that can't be opened or locked has a line on standard error. A file
+/// that is written belongs to its owner alone. It is on the disk before the call answers, and so is a
+/// change of names, unless the devices of its run are late (`Unsynced`). But what tidies a finished
+/// entry, its control file's last name and the removal of its body, waits for the next change of
+/// names there, and comes to the disk before anything is changed in another directory.
 #[derive(Drop)]
 pub struct QueueDirs<'a> {
     alloc: Global,
@@ -70,7 +70,7 @@ impl<'a> QueueDirs<'a> {
         self.faults
     }
 
-    // The place of a directory, which is opened and locked at its first use.
+    // The place of a directory, which is opened, locked and synced at its first use.
     fn hold(&mut self, dir: &Text) -> Result<usize, EdgeFault>
         ensures { self.new.faults ≡ self.old.faults }
     {
@@ -224,7 +224,8 @@ impl Look for QueueDirs<'_> {
     }
 }
 
-// Opens and locks a directory. Its name is copied first, so that what is locked is kept.
+// Opens and locks a directory, and waits until its names have reached the disk: the owner before it
+// may have been killed behind a renaming. Its name is copied first, so that what is locked is kept.
 fn locked(
     alloc: Global,
     prefix: &[u8],
@@ -234,6 +235,7 @@ fn locked(
     let path = dir_path(prefix, dir)?;
     let open = noted(&path, Descriptor::to_dir(&path))?;
     noted(&path, open.lock())?;
+    open.sync()?;
     let dir = dir.copy()?;
     let place = unsynced.add_dir(Text::of(alloc, &path)?, open)?;
     Ok(Held { dir, place })
