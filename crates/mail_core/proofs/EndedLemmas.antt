@@ -1,6 +1,6 @@
 -- A run over the queue that is finished has tried all entries of its list.
 use Rattle.std.proofs.Common.{◌≡◌, ℕ, List, [], ◌∷◌, ◌++◌, Bool, true, false, Option, Some, None, if◌then◌else◌, refl, sym, ◌∙◌, ap, subst, arith, append_assoc}
-use Rattle.std.specs.Prelude.{Contains, is_some, ◌&&◌}
+use Rattle.std.specs.Prelude.{Contains, is_some}
 use Rattle.std.specs.Option.{option_map}
 use Rattle.std.proofs.lemmas.List.Elements.{All-nil}
 use Rattle.link_edge.specs.declared.event.Event.{Event}
@@ -17,20 +17,17 @@ use Rattle.mail_core.specs.Idling.{Carrying, Claiming, Idling, Quiet, Starving, 
 use Rattle.mail_core.specs.Judges.{JudgeSeen, untold}
 use Rattle.mail_core.specs.Machine.{Choices, Turn, at_moment, came, fits, handled, run, turned}
 use Rattle.mail_core.specs.Meant.{IsEventMeant, IsRunMeant}
-use Rattle.mail_core.specs.Plans.{Once, Origin, Plan, Serve, awaits, comes_from, is_rest, reading_of}
+use Rattle.mail_core.specs.Plans.{Once, Origin, Plan, Serve, comes_from, is_rest, reading_of}
 use Rattle.mail_core.specs.Sites.{Site}
 use Rattle.mail_core.specs.States.{By, Finish, Finished, Seat, State, Step, cut, headed, still}
 use Rattle.mail_core.specs.Tried.{WasTried}
 use Rattle.mail_core.proofs.HeldLemmas.{IsHeldBy}
+use Rattle.mail_core.proofs.PlanLemmas.{rests_alone}
 use Rattle.mail_core.proofs.RunsLemmas.{AllHeld, IsCome, came_works, turned_works}
 use Rattle.mail_core.proofs.TriedLemmas.{After, Stage, idle_stage, is_held, is_over, stage_more, waits}
 use Rattle.mail_core.proofs.TurnedLemmas.{either_step, none_apart}
 
 -- ---- a turn of a run over the queue rests, or the run is cut
-
-both_unfit : (a b : Bool) → b ≡ false → (a && b) ≡ false
-both_unfit true b e = e
-both_unfit false b e = refl
 
 none_over : (o : Option Finish) → is_some o ≡ false → o ≡ None
 none_over None e = refl
@@ -44,7 +41,7 @@ module _ (site : Site) (P : Step → Type 0) where
   cut_has : (group : Option (List ℕ)) (m : State) (event : Event) (origin : Origin) (choices : Choices event) → site.plan ≡ Once group → is_rest event ≡ false → P (still m) → P (cut m) → P (turned site m (turn_of event origin choices))
   cut_has group m event origin choices once rests p q =
       let now = headed (came origin event) (handled site (at_moment m (reading_of origin)) event choices) in
-      let unfit : fits site m (turn_of event origin choices) ≡ false = both_unfit (comes_from origin event) (awaits site.plan m.stopping event) (ap (λ (r : Plan). awaits r m.stopping event) once ∙ rests) in
+      let unfit : fits site m (turn_of event origin choices) ≡ false = ap (λ (r : Plan). comes_from r m.stopping origin event) once ∙ rests_alone group m.stopping origin event rests in
       either_step P (is_some m.over) (still m) (if fits site m (turn_of event origin choices) then now else cut m) p
       (subst (λ (b : Bool). P (if b then now else cut m)) (sym unfit) q)
 

@@ -1,6 +1,6 @@
 -- A turn of the machine, by what was seen of the turn itself and what was done at its event.
 use Rattle.std.proofs.Common.{◌≡◌, ℕ, List, [], ◌∷◌, true, false, Some, None, Result, Ok, Err, refl, sym, ◌∙◌, ap, subst, arith}
-use Rattle.std.specs.Prelude.{is_ok, ◌&&◌, if◌then◌else◌}
+use Rattle.std.specs.Prelude.{is_ok, if◌then◌else◌}
 use Rattle.std.specs.Option.{is_some}
 use Rattle.std.proofs.lemmas.Bool.{cond-true, cond-false, false≢true}
 use Rattle.mail_base.specs.Histories.{Gains}
@@ -22,7 +22,7 @@ use Rattle.mail_core.specs.Events.{IsTaken, Turns}
 use Rattle.mail_core.specs.Judges.{JudgeSeen}
 use Rattle.mail_core.specs.Machine.{Choices, Turn, at_moment, came, fits, handled, turned}
 use Rattle.mail_core.specs.Meant.{IsEventMeant, IsEventRead}
-use Rattle.mail_core.specs.Plans.{OfFloor, OfRun, Origin, awaits, comes_from, is_own, reading_of}
+use Rattle.mail_core.specs.Plans.{OfFloor, OfRun, Origin, comes_from, is_own, reading_of}
 use Rattle.mail_core.specs.Seen.{Hands, Ran, RanBy, Seen, beside, seen}
 use Rattle.mail_core.specs.Sites.{Site}
 use Rattle.mail_core.specs.Standing.{Stands}
@@ -43,20 +43,19 @@ came_ran dirs table (OfRun reading) event before f s clock read hands t =
 
 -- steps of the machine at the moment that the clock told are the turn of an event
 pub turns_by : (j : JudgeSeen) (site : Site) (m : State) (event : Event) (origin : Origin) (choices : Choices event) (before f : Heard) (s : Spooled) (clock read : ClockSeen) (hands : Hands) (b : Seen) (core : Core) (went : Result Act CoreStop)
-    → m.over ≡ None → comes_from origin event ≡ true → awaits site.plan m.stopping event ≡ true → IsTaken origin before f clock read event
+    → m.over ≡ None → comes_from site.plan m.stopping origin event ≡ true → IsTaken origin before f clock read event
     → IsEventMeant j site (at_moment m (reading_of origin)) event choices
     → ((files : FileMap) → s.told ≡ Some files → StandsFor site.dirs m.table files → IsEventRead m event choices)
     → RanBy site.dirs m.table (seen f s (beside read hands)) b (handled site (at_moment m (reading_of origin)) event choices).effects (is_well went) (is_ok went)
     → (ending_of went ≡ None → Stands site core (handled site (at_moment m (reading_of origin)) event choices).state)
     → ((ending : Ending) → ending_of went ≡ Some ending → EndsSo ending (handled site (at_moment m (reading_of origin)) event choices).state (seen f s (beside read hands)) b)
     → Turns j site m event origin (seen before s (beside clock hands)) b core went
-turns_by j site m event origin choices before f s clock read hands b core went on comes waits taken meant reads ran stands ended =
+turns_by j site m event origin choices before f s clock read hands b core went on comes taken meant reads ran stands ended =
     let turn : Turn = record { event = event; origin = origin; choices = choices } in
     let inner = handled site (at_moment m (reading_of origin)) event choices in
     let first : List Effect = came origin event in
-    let both : fits site m turn ≡ true = ap (λ b. b && awaits site.plan m.stopping event) comes ∙ waits in
     let is : turned site m turn ≡ headed first inner =
-    cond-false (is_some m.over) (still m) (if fits site m turn then headed first inner else cut m) (ap is_some on) ∙ cond-true (fits site m turn) (headed first inner) (cut m) both in record {
+    cond-false (is_some m.over) (still m) (if fits site m turn then headed first inner else cut m) (ap is_some on) ∙ cond-true (fits site m turn) (headed first inner) (cut m) comes in record {
       choices = choices;
       meant = meant;
       read = reads;
@@ -90,10 +89,10 @@ unread_session m Stops choices e = absurd (false≢true (sym e))
 
 -- the turn of a session, by its steps
 pub turns_of : (j : JudgeSeen) (site : Site) (m : State) (event : Event) (reading : ℕ) (before f : Heard) (s : Spooled) (clock read : ClockSeen) (hands : Hands) (b : Seen) (core : Core) (went : Result Act CoreStop)
-    → m.over ≡ None → is_own event ≡ false → awaits site.plan m.stopping event ≡ true → IsTaken (OfFloor reading) before f clock read event
+    → m.over ≡ None → is_own event ≡ false → comes_from site.plan m.stopping (OfFloor reading) event ≡ true → IsTaken (OfFloor reading) before f clock read event
     → Steps j site (at_moment m reading) event (seen f s (beside read hands)) b core went → Turns j site m event (OfFloor reading) (seen before s (beside clock hands)) b core went
-turns_of j site m event reading before f s clock read hands b core went on own waits taken h =
-    turns_by j site m event (OfFloor reading) h.choices before f s clock read hands b core went on refl waits taken h.meant
+turns_of j site m event reading before f s clock read hands b core went on own comes taken h =
+    turns_by j site m event (OfFloor reading) h.choices before f s clock read hands b core went on comes taken h.meant
     (λ files told stands. unread_session m event h.choices own)
     (ran_ends site.dirs m.table (seen f s (beside read hands)) b (handled site (at_moment m reading) event h.choices).effects (is_well went) (is_ok went) (went_well went) h.ran)
     h.stands h.ended

@@ -28,7 +28,7 @@ use Rattle.mail_core.specs.Beginning.{beginning, served}
 use Rattle.mail_made.specs.Messages.{Made, is_spent}
 use Rattle.mail_core.specs.Messages.{accept_of, start}
 use Rattle.mail_core.proofs.FollowLemmas.{run_more}
-use Rattle.mail_core.specs.Plans.{OfFloor, awaits}
+use Rattle.mail_core.specs.Plans.{OfFloor, comes_from}
 use Rattle.queue_run.specs.Deeds.{Asks}
 
 -- a message in one part, with no header in front
@@ -215,11 +215,11 @@ abbrev pub piece : ℕ → List ℕ → ℕ → List Choice → Turn
 piece session bytes reading choices = record { event = Brings session bytes; origin = OfFloor reading; choices = choices }
 
 -- a turn that brings a piece
-pub piece_turn : (site : Site) (m : State) (session : ℕ) (g : Guest) (bytes : List ℕ) (reading : ℕ) (choices : List Choice) (d : Did) → m.over ≡ None → awaits site.plan m.stopping (Brings session bytes) ≡ true → guest_of session m.guests ≡ Some g
+pub piece_turn : (site : Site) (m : State) (session : ℕ) (g : Guest) (bytes : List ℕ) (reading : ℕ) (choices : List Choice) (d : Did) → m.over ≡ None → comes_from site.plan m.stopping (OfFloor reading) (Brings session bytes) ≡ true → guest_of session m.guests ≡ Some g
     → all_answered site (at_moment m reading).latest m.table (with_bytes g bytes) choices ≡ d → turned site m (piece session bytes reading choices) ≡ taken (piece session bytes reading choices) (brought (at_moment m reading) d.way d)
-piece_turn site m session g bytes reading choices d on waits is all =
+piece_turn site m session g bytes reading choices d on comes is all =
     cond-false (is_some m.over) (still m) _ (ap is_some on)
-    ∙ cond-true (fits site m (piece session bytes reading choices)) _ (cut m) waits
+    ∙ cond-true (fits site m (piece session bytes reading choices)) _ (cut m) comes
     ∙ ap (λ o. taken (piece session bytes reading choices) (pieced site (at_moment m reading) bytes choices o)) is
     ∙ ap (λ (q : Did). taken (piece session bytes reading choices) (brought (at_moment m reading) q.way q)) all
 
@@ -255,7 +255,7 @@ none_is (Some line) is = absurd (cc is)
 abbrev pub one : ℕ → Event
 one b = Brings 1 (b ∷ [])
 
-module _ (site : Site) (config : Config) (peer : List ℕ) (reading : ℕ) (latest : ℕ) (same : moment_by latest reading ≡ latest) (serves : (event : Event) → awaits site.plan false event ≡ true) where
+module _ (site : Site) (config : Config) (peer : List ℕ) (reading : ℕ) (latest : ℕ) (same : moment_by latest reading ≡ latest) (serves : (event : Event) → comes_from site.plan false (OfFloor reading) event ≡ true) where
   abbrev pub caller : List ℕ → List Heard → Guest
   caller bytes heard = record { number = 1; config = config; peer = peer; received = bytes; heard = heard }
 

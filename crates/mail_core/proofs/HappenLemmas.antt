@@ -31,7 +31,7 @@ use Rattle.mail_core.specs.Idling.{Carrying, Claiming, Idling, Quiet, Starving, 
 use Rattle.mail_core.specs.Judges.{JudgeSeen}
 use Rattle.mail_core.specs.Machine.{AreOpen, at_moment}
 use Rattle.mail_made.specs.Messages.{last_id}
-use Rattle.mail_core.specs.Plans.{OfFloor, OfRun, Origin, awaits, comes_from, reading_of}
+use Rattle.mail_core.specs.Plans.{Origin, comes_from, reading_of}
 use Rattle.mail_core.specs.Resting.{IsCarryRead, IsRestRead, IsStopRead, IsTakenRead}
 use Rattle.mail_core.specs.Seen.{IsSparing, RanBy, beside, hands, seen}
 use Rattle.mail_core.specs.Sites.{Site}
@@ -221,26 +221,18 @@ rest_read m reading (Carrying luck) h = by m.seats h
     by (seat ∷ seats) h = h
 rest_read m reading Quiet h = h
 
-own_comes : (origin : Origin) → comes_from origin Rests ≡ true
-own_comes (OfFloor reading) = refl
-own_comes (OfRun reading) = refl
-
-stop_comes : (origin : Origin) → comes_from origin Stops ≡ true
-stop_comes (OfFloor reading) = refl
-stop_comes (OfRun reading) = refl
-
 module _ (j : JudgeSeen) (site : Site) (m : State) (origin : Origin) (old now : Core) (a b : Bench) (r : Result Act RunStop) (before floor : Heard) (clock read : ClockSeen) where
   abbrev moved : State
   moved = at_moment m (reading_of origin)
 
-  pub rest_turns : Stands site old moved → m.over ≡ None → awaits site.plan m.stopping Rests ≡ true → IsTaken origin before floor clock read Rests → Tallies old.intake.table a.spool
+  pub rest_turns : Stands site old moved → m.over ≡ None → comes_from site.plan m.stopping origin Rests ≡ true → IsTaken origin before floor clock read Rests → Tallies old.intake.table a.spool
       → now ≡ record old { intake = now.intake; crew = now.crew } → now.intake ≡ record old.intake { table = now.intake.table }
       → RestsSo j site moved old.intake.table now.intake.table now.crew a b r
       → Turns j site m Rests origin (seen before a.spool (beside clock (hands a.spawner a.dialer))) (seen floor b.spool (beside read (hands b.spawner b.dialer))) now (lifted r)
-  rest_turns st on waits taken tallies is intake h =
+  rest_turns st on comes taken tallies is intake h =
       let step : Step = ends_list site (idle site moved h.choice) in
       turns_by j site m Rests origin h.choice before floor a.spool clock read (hands a.spawner a.dialer) (seen floor b.spool (beside read (hands b.spawner b.dialer))) now (lifted r)
-      on (own_comes origin) waits taken h.meant
+      on comes taken h.meant
       (λ files told stands. rest_read m (reading_of origin) h.choice (h.read files told (subst (λ q. StandsFor q m.table files) (sym st.intake.stores.dirs) stands)))
       (happened_ran site moved step old.intake.table now.intake.table now.crew a b r floor read st.intake.stores tallies h.happened)
       (λ e. rest_left step h.happened (rest_besides site moved h.choice) (went_on r e))
@@ -255,14 +247,14 @@ module _ (j : JudgeSeen) (site : Site) (m : State) (origin : Origin) (old now : 
           let left = subst (λ q. Leaves site step old.intake.table now.intake.table now.crew b q) went happened.left in
           left_stands site old now moved step b st besides (happened.over ∙ ap finish_by went) is intake left
 
-  pub stop_turns : Stands site old (record moved { stopping = true }) → m.over ≡ None → awaits site.plan m.stopping Stops ≡ true → IsTaken origin before floor clock read Stops → Tallies old.intake.table a.spool
+  pub stop_turns : Stands site old (record moved { stopping = true }) → m.over ≡ None → comes_from site.plan m.stopping origin Stops ≡ true → IsTaken origin before floor clock read Stops → Tallies old.intake.table a.spool
       → now ≡ record old { intake = now.intake; crew = now.crew } → now.intake ≡ record old.intake { table = now.intake.table }
       → StopsSo j site (record moved { stopping = true }) old.intake.table now.intake.table now.crew a b r
       → Turns j site m Stops origin (seen before a.spool (beside clock (hands a.spawner a.dialer))) (seen floor b.spool (beside read (hands b.spawner b.dialer))) now (lifted r)
-  stop_turns st on waits taken tallies is intake h =
+  stop_turns st on comes taken tallies is intake h =
       let step : Step = stopped site (record moved { stopping = true }) h.choice in
       turns_by j site m Stops origin h.choice before floor a.spool clock read (hands a.spawner a.dialer) (seen floor b.spool (beside read (hands b.spawner b.dialer))) now (lifted r)
-      on (stop_comes origin) waits taken h.meant
+      on comes taken h.meant
       (λ files told stands. stop_read h.choice (h.read files told (subst (λ q. StandsFor q m.table files) (sym st.intake.stores.dirs) stands)))
       (happened_ran site (record moved { stopping = true }) step old.intake.table now.intake.table now.crew a b r floor read st.intake.stores tallies h.happened)
       (λ e. stop_left step h.happened (stop_besides site (record moved { stopping = true }) h.choice) (went_on r e))

@@ -81,28 +81,35 @@ list_ends : (control : Control)
 unfolding last_moment
 list_ends control = (refl, refl)
 
--- behind a Stop the first holder whose child runs takes a step, and goes behind the others
 abbrev waits : ℕ → Seat
 waits id = record { lane = codes "mqueue"; holder = record { id = id; rest = []; running = None } }
 
 abbrev runs : ℕ → Seat
 runs id = record { lane = codes "mqueue"; holder = record { id = id; rest = []; running = Some (record { child = 5; places = 0 ∷ [] }) } }
 
+-- at a Stop the first holder whose child runs takes a step, and goes behind the others; a run makes
+-- none itself while none was told
 stop_steps : (control : Control)
     → ((turned (site (Serve None)) (record (beginning (served (table control (Queued None)))) { seats = waits 1 ∷ runs 7 ∷ waits 3 ∷ [] }) (record { event = Stops; origin = OfFloor 100; choices = Some StillRuns })).effects
     ≡ Takes Stops ∷ Ticks 100 ∷ Does (Polls 7 5 polls.Runs) ∷ [])
     × ((turned (site (Serve None)) (record (beginning (served (table control (Queued None)))) { seats = waits 1 ∷ runs 7 ∷ waits 3 ∷ [] }) (record { event = Stops; origin = OfFloor 100; choices = Some StillRuns })).state.seats
     ≡ waits 1 ∷ waits 3 ∷ runs 7 ∷ [])
     × ((turned (site (Serve None)) (record (beginning (served (table control (Queued None)))) { seats = waits 1 ∷ waits 3 ∷ [] }) (record { event = Stops; origin = OfRun 100; choices = None })).state.over
-    ≡ Some (By Finished))
+    ≡ Some Cut)
 unfolding last_moment
 stop_steps control = (refl, refl, refl)
 
--- behind a Stop nothing else comes
+-- only behind one that the floor told does the run make them itself
+stop_ends : (control : Control)
+    → (turned (site (Serve None)) (record (beginning (served (table control (Queued None)))) { seats = waits 1 ∷ waits 3 ∷ []; stopping = true }) (record { event = Stops; origin = OfRun 100; choices = None })).state.over ≡ Some (By Finished)
+stop_ends control = refl
+
+-- and then the floor isn't asked any more, neither for a Rest nor for a Stop
 stop_awaits : (control : Control)
-    → (turned (site (Serve None)) (record (beginning (served (table control (Queued None)))) { stopping = true }) (rests 100 Quiet)).state.over ≡ Some Cut
-stop_awaits control = refl
+    → ((turned (site (Serve None)) (record (beginning (served (table control (Queued None)))) { stopping = true }) (rests 100 Quiet)).state.over ≡ Some Cut)
+    × ((turned (site (Serve None)) (record (beginning (served (table control (Queued None)))) { stopping = true }) (record { event = Stops; origin = OfFloor 100; choices = None })).state.over ≡ Some Cut)
+stop_awaits control = (refl, refl)
 
 -- the examples above, for whoever asks for them
-pub examples : (control : Control) → (turned (site (Serve None)) (record (beginning (served (table control (Queued None)))) { stopping = true }) (rests 100 Quiet)).state.over ≡ Some Cut
-examples control = stop_awaits control
+pub examples : (control : Control) → (turned (site (Serve None)) (record (beginning (served (table control (Queued None)))) { stopping = true; seats = waits 1 ∷ waits 3 ∷ [] }) (record { event = Stops; origin = OfRun 100; choices = None })).state.over ≡ Some (By Finished)
+examples control = stop_ends control

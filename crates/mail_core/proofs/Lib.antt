@@ -2,6 +2,7 @@ pub mod FollowLemmas
 pub mod KindLemmas
 pub mod IdleLemmas
 pub mod ApartLemmas
+pub mod PlanLemmas
 pub mod TurnedLemmas
 pub mod WayLemmas
 pub mod LeadLemmas

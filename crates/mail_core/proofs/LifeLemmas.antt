@@ -15,8 +15,8 @@ use Rattle.mail_core.specs.Guests.{Guest, grants_of, guest_of, has_number, is_he
 use Rattle.mail_core.specs.Machine.{all_answered, at_moment, brought, came, Choice, Choices, Did, Dropped, fits, GoesOn, handled, Leaves, most_guests, opened, Opening, Over, pieced, Replied, run, Turn, turned, turned_away, Way, welcomed}
 use Rattle.mail_core.specs.States.{State, Step, cut, headed, still}
 use Rattle.mail_core.specs.Told.{Converses, IsInTurn, NeverOpens, Welcomes, hangs_up, turns_away, greets, brought_in, brought_of, is_of_others, opening_of, opens_none, replies_of, said_to}
-use Rattle.mail_core.specs.Plans.{OfFloor, OfRun, Origin, awaits, comes_from, is_own, reading_of}
-use Rattle.std.proofs.lemmas.Bool.{and_parts}
+use Rattle.mail_core.specs.Plans.{OfFloor, OfRun, Origin, comes_from, is_own, reading_of}
+use Rattle.mail_core.proofs.PlanLemmas.{made_own}
 use Rattle.mail_core.proofs.QuietLemmas.{rest_quiet, stop_quiet}
 use Rattle.mail_core.proofs.TurnedLemmas.{turned_has}
 use Rattle.mail_core.proofs.SpokenLemmas.{found_number, pushed_other, skipped, changed_other, changed_own, gone, left_other, left_own}
@@ -283,18 +283,17 @@ module _ (site : Site) (s : ℕ) where
   own_brings Rests own = refl
   own_brings Stops own = refl
 
-  came_lives : (m : State) (origin : Origin) (event : Event) (step : Step) → comes_from origin event ≡ true → Handles m event step → StepLives m (headed (came origin event) step)
+  came_lives : (m : State) (origin : Origin) (event : Event) (step : Step) → comes_from site.plan m.stopping origin event ≡ true → Handles m event step → StepLives m (headed (came origin event) step)
   came_lives m (OfFloor reading) event step comes h =
       subst (λ q. Lives (guest_of s m.guests) (guest_of s step.state.guests) q (said_to s step.effects)) (sym (ap (λ q. brought_in s event ++ q) h.quiet ∙ append-nil (brought_in s event))) h.lives
   came_lives m (OfRun reading) event step comes h =
-      subst (λ q. Lives (guest_of s m.guests) (guest_of s step.state.guests) q (said_to s step.effects)) (own_brings event comes ∙ sym h.quiet) h.lives
+      subst (λ q. Lives (guest_of s m.guests) (guest_of s step.state.guests) q (said_to s step.effects)) (own_brings event (made_own site.plan m.stopping reading event comes) ∙ sym h.quiet) h.lives
 
   fitting_lives : (m : State) (turn : Turn) (b : Bool) → fits site m turn ≡ b → opens_none s turn.event ≡ true
       → StepLives m (if b then headed (came turn.origin turn.event) (handled site (at_moment m (reading_of turn.origin)) turn.event turn.choices) else cut m)
   fitting_lives m turn true fit none =
       let now = at_moment m (reading_of turn.origin) in
-      let both = and_parts (comes_from turn.origin turn.event) (awaits site.plan m.stopping turn.event) fit in
-      came_lives now turn.origin turn.event (handled site now turn.event turn.choices) both.0 (handled_lives now turn.event turn.choices none)
+      came_lives now turn.origin turn.event (handled site now turn.event turn.choices) fit (handled_lives now turn.event turn.choices none)
   fitting_lives m turn false fit none = lives_same (guest_of s m.guests)
 
   turned_lives : (m : State) (turn : Turn) → opens_none s turn.event ≡ true → StepLives m (turned site m turn)

@@ -14,7 +14,7 @@ use Rattle.mail_core.specs.States.{State, Step, cut, headed, still}
 use Rattle.mail_core.specs.Sites.{Site}
 use Rattle.mail_core.specs.Told.{AreOfOthers, Converses, IsInTurn, NeverOpens, is_of_others, opening_of, replies_of, said_to}
 use Rattle.mail_core.specs.Answering.{IsAnswer}
-use Rattle.mail_core.specs.Plans.{OfFloor, OfRun, Origin, awaits, reading_of}
+use Rattle.mail_core.specs.Plans.{OfFloor, OfRun, Origin, comes_from, reading_of}
 use Rattle.mail_core.proofs.OpenLemmas.{open_more, open_with, open_without}
 use Rattle.mail_core.proofs.QuietLemmas.{rest_quiet, stop_quiet}
 use Rattle.mail_core.proofs.TurnedLemmas.{turned_has}
@@ -110,14 +110,14 @@ module _ (site : Site) where
 
   -- ---- one more than may be open
 
-  pub turned_so : (m : State) (s : ℕ) (peer : List ℕ) (reading : ℕ) (whole : Bool) → m.over ≡ None → awaits site.plan m.stopping (Opens s peer) ≡ true → is_here s m.guests ≡ false → most_guests ≤ length m.guests
+  pub turned_so : (m : State) (s : ℕ) (peer : List ℕ) (reading : ℕ) (whole : Bool) → m.over ≡ None → comes_from site.plan m.stopping (OfFloor reading) (Opens s peer) ≡ true → is_here s m.guests ≡ false → most_guests ≤ length m.guests
       → turned site m (opening_of s peer reading (Replied whole)) ≡ record { state = at_moment m reading; effects = Takes (Opens s peer) ∷ Ticks reading ∷ Sends s too_many_sessions_text whole ∷ HangsUp s ∷ [] }
-  turned_so m s peer reading whole on awaited new full =
+  turned_so m s peer reading whole on comes new full =
       let turn = opening_of s peer reading (Replied whole) in
       let now = at_moment m reading in
       let seen = came (OfFloor reading) (Opens s peer) in
       cond-false (is_some m.over) (still m) (if fits site m turn then headed seen (opened site now s peer (Replied whole)) else cut m) (ap is_some on)
-      ∙ cond-true (fits site m turn) (headed seen (opened site now s peer (Replied whole))) (cut m) awaited
+      ∙ cond-true (fits site m turn) (headed seen (opened site now s peer (Replied whole))) (cut m) comes
       ∙ ap (headed seen)
       (cond-false (is_here s m.guests) (still now) _ new
       ∙ cond-true (nat_le most_guests (length m.guests)) (turned_away now s (Replied whole)) (welcomed site now s peer (Replied whole)) (le-leb most_guests (length m.guests) full))

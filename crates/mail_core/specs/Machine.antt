@@ -24,7 +24,7 @@ use Rattle.mail_core.specs.Idling.{Idling, ends_list, idle, stopped}
 use Rattle.mail_made.specs.Messages.{Made, is_spent}
 use Rattle.mail_made.specs.Moments.{moment_of}
 use Rattle.mail_core.specs.Messages.{accept_of}
-use Rattle.mail_core.specs.Plans.{Origin, OfFloor, OfRun, awaits, comes_from, reading_of}
+use Rattle.mail_core.specs.Plans.{Origin, OfFloor, OfRun, comes_from, reading_of}
 use Rattle.mail_core.specs.Sites.{Site}
 use Rattle.mail_core.specs.States.{By, Cut, FilesFault, Finish, IdsSpent, SpoolFault, State, Step, cut, followed, headed, still}
 
@@ -318,8 +318,7 @@ came (OfRun reading) event = Ticks reading ∷ []
 
 -- a turn may come then
 abbrev pub fits : Site → State → Turn → Bool
-fits site m turn =
-    comes_from turn.origin turn.event && awaits site.plan m.stopping turn.event
+fits site m turn = comes_from site.plan m.stopping turn.origin turn.event
 
 -- one turn; after the run is over there is none
 abbrev pub turned : Site → State → Turn → Step

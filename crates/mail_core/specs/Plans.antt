@@ -43,13 +43,12 @@ is_stop (Closes session) = false
 is_stop Rests = false
 is_stop Stops = true
 
--- a run makes no turn of a session itself
-abbrev pub comes_from : Origin → Event → Bool
-comes_from (OfFloor reading) event = true
-comes_from (OfRun reading) event = is_own event
-
--- the events that may come: a run over the queue only rests, and behind a Stop each event is one
-abbrev pub awaits : Plan → (stopping : Bool) → Event → Bool
-awaits (Once group) stopping event = is_rest event
-awaits (Serve wait) true event = is_stop event
-awaits (Serve wait) false event = true
+-- where a turn may come from: while sessions are served the floor tells each, whatever it is;
+-- behind a Stop the run makes Stops itself, and asks no floor; a run over the queue makes Rests
+abbrev pub comes_from : Plan → (stopping : Bool) → Origin → Event → Bool
+comes_from (Serve wait) false (OfFloor reading) event = true
+comes_from (Serve wait) false (OfRun reading) event = false
+comes_from (Serve wait) true (OfFloor reading) event = false
+comes_from (Serve wait) true (OfRun reading) event = is_stop event
+comes_from (Once group) stopping (OfFloor reading) event = false
+comes_from (Once group) stopping (OfRun reading) event = is_rest event

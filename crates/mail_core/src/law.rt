@@ -28,7 +28,7 @@ ghost use Rattle.mail_core.specs.Keeping.{IsHolding};
 ghost use Rattle.mail_core.specs.Lasting.{IsSentAt, Lasts};
 ghost use Rattle.mail_core.specs.Guests.{Guest, guest_of, is_here};
 ghost use Rattle.mail_core.specs.Machine.{AreOpen, Choice, Opening, Replied, Turn, all_answered, at_moment, most_guests, run, turned};
-ghost use Rattle.mail_core.specs.Plans.{Once, awaits};
+ghost use Rattle.mail_core.specs.Plans.{OfFloor, Once, comes_from};
 ghost use Rattle.mail_core.specs.Sites.{Site};
 ghost use Rattle.mail_core.specs.States.{By, Finished, Seat, State, followed};
 ghost use Rattle.mail_core.specs.Tried.{WasTried};
@@ -250,7 +250,8 @@ pub fn a_session_is_sent_what_it_would_be_sent_alone()
 /// is done, and nothing changes but the greatest reading of the clock.
 pub fn one_session_more_is_turned_away()
     ensures { (site : Site) (m : State) (session : ℕ) (peer : List ℕ) (reading : ℕ) (whole : Bool)
-        → m.over ≡ None → awaits site.plan m.stopping (Opens session peer) ≡ true
+        → m.over ≡ None
+        → comes_from site.plan m.stopping (OfFloor reading) (Opens session peer) ≡ true
         → is_here session m.guests ≡ false → most_guests ≤ length m.guests
         → turned site m (opening_of session peer reading (Replied whole))
         ≡ record {

@@ -16,7 +16,7 @@ ghost use Rattle.mail_core.specs.Events.{IsHeardAt, IsTaken, Turns, event_of};
 ghost use Rattle.mail_core.specs.Guests.{newcomer, without};
 ghost use Rattle.mail_core.specs.Judges.{IsAsked, drawing, judging};
 ghost use Rattle.mail_core.specs.Machine.{most_guests};
-ghost use Rattle.mail_core.specs.Plans.{OfFloor, Origin, awaits, is_own, reading_of};
+ghost use Rattle.mail_core.specs.Plans.{OfFloor, Origin, comes_from, is_own, reading_of};
 ghost use Rattle.mail_core.specs.Seen.{Beside, Hands, beside, hands, seen};
 ghost use Rattle.mail_core.specs.Sites.{IsUnder, Site};
 ghost use Rattle.mail_core.specs.Standing.{IsStanding, Keeps, MayGoOn, Stands, table_of};
@@ -118,7 +118,7 @@ impl Drop for Core {
 }
 
 impl Core {
-    /// Whether a Stop came: then each turn is one. It takes no memory.
+    /// Whether a Stop came: then each turn is one that the run makes itself. It takes no memory.
     pub fn is_stopping(&self) -> bool
         ensures { result ≡ self.now.stopping }
     {
@@ -151,7 +151,7 @@ impl Core {
         requires tallied { Tallies (table_of self.old) (D.seen spool.old) }
         ensures turns { (site : Site) (m : State) (before : Heard) (clock read : ClockSeen)
             (hands : Hands) → IsUnder site config.now maps.now → Stands site self.old m
-            → awaits site.plan m.stopping (event_of turn buf.now) ≡ true
+            → comes_from site.plan m.stopping (OfFloor reading) (event_of turn buf.now) ≡ true
             → IsTaken (OfFloor reading) before (F.seen floor.old) clock read (event_of turn buf.now)
             → Turns (judging (J.seen judge.old) (J.answers judge.old)) site m
             (event_of turn buf.now) (OfFloor reading)
@@ -193,7 +193,7 @@ impl Core {
         requires able { MayGoOn self.old (D.seen spool.old) (S.seen spawner.old) }
         ensures turns { (site : Site) (m : State) (origin : Origin) (before now : Heard)
             (clock read : ClockSeen) → IsUnder site config.now maps.now → Stands site self.old m
-            → awaits site.plan m.stopping Rests ≡ true → reading_of origin ≡ reading
+            → comes_from site.plan m.stopping origin Rests ≡ true → reading_of origin ≡ reading
             → IsTaken origin before now clock read Rests
             → Turns (drawing (W.seen draws.old) (W.answers draws.old)) site m Rests origin
             (seen before (D.seen spool.old)
@@ -225,8 +225,9 @@ impl Core {
         )
     }
 
-    /// A Stop, and each turn behind it: the first of those whose child runs takes a step. It ends
-    /// where no child runs any more. The clock was read before the call.
+    /// A Stop that the floor told, or one that the run makes behind it: the first of those whose
+    /// child runs takes a step. It ends where no child runs any more. The clock was read before the
+    /// call.
     pub fn stop<D: Spool, S: Spawner, N: Dialer, W: Draws>(
         &mut self,
         spool: &mut D,
@@ -241,7 +242,7 @@ impl Core {
         requires able { MayGoOn self.old (D.seen spool.old) (S.seen spawner.old) }
         ensures turns { (site : Site) (m : State) (origin : Origin) (before now : Heard)
             (clock read : ClockSeen) → IsUnder site config.now maps.now → Stands site self.old m
-            → awaits site.plan m.stopping Stops ≡ true → reading_of origin ≡ reading
+            → comes_from site.plan m.stopping origin Stops ≡ true → reading_of origin ≡ reading
             → IsTaken origin before now clock read Stops
             → Turns (drawing (W.seen draws.old) (W.answers draws.old)) site m Stops origin
             (seen before (D.seen spool.old)

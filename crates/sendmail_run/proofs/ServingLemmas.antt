@@ -5,7 +5,7 @@ use Rattle.std.proofs.Math.Nat.{le_refl}
 use Rattle.mail_base.specs.Histories.{Gains, Rose}
 use Rattle.mail_base.specs.declared.config.Config.{Config}
 use Rattle.mail_edge.specs.Asking.{Asks}
-use Rattle.mail_edge.specs.Seen.{FilesSeen}
+use Rattle.mail_edge.specs.Seen.{ClockSeen, FilesSeen}
 use Rattle.link_edge.specs.Heard.{Heard}
 use Rattle.link_edge.specs.declared.event.Event.{Event}
 use Rattle.spool_disk.specs.Disk.{FileMap}
@@ -39,7 +39,7 @@ use Rattle.sendmail_run.specs.declared.task.Task.{Task}
 use Rattle.sendmail_run.specs.declared.outcome.Outcome.TheVariants as outcomes
 use Rattle.sendmail_run.specs.Outcomes.{of_serving}
 use Rattle.sendmail_run.specs.Rises.{RisesOnlyAt}
-use Rattle.sendmail_run.specs.Serving.{HasEnded, IsLeftAlone, IsOverQueue, IsRun, IsServed, IsServedOut, IsTakenOver, IsUnserved, Serves, from_id, judge_by}
+use Rattle.sendmail_run.specs.Serving.{HasEnded, IsAsking, IsLeftAlone, IsOverQueue, IsRun, IsServed, IsServedOut, IsTakenOver, IsUnserved, Serves, from_id, judge_by}
 use Rattle.sendmail_run.specs.Tasks.{IsBegunAt, door_of}
 use Rattle.sendmail_run.specs.inner.Opened.{HasBegun, IsFound, IsGoing, IsOn, IsOpened}
 
@@ -161,10 +161,25 @@ served j site task core n a b begun only going = record {
   over = over site a going.store (λ table. IsRun j site table n a b) going.found (λ table holds. ran_so j site table core n a b only (going.runs table holds));
 }
 
+-- a core to which no Stop came asks the floor
+asks_so : (j : JudgeSeen) (site : Site) (table : Table) (core : Core) (n : ℕ) (a b : Seen) → OnlyNow a → core.stopping ≡ false → IsOn j site table core n a b → IsAsking j site table n a b
+asks_so j site table core n a b only asks on = record { run = ran_so j site table core n a b only on; asks = sym on.under.stands.stopping ∙ asks }
+
+-- one that has just begun does
+pub asks_first : (site : Site) (told : Option FileMap) (core : Core) (c d : ClockSeen) → IsOpened site told core c d → core.stopping ≡ false
+asks_first site told core c d opened = let b = opened.begins opened.found.some opened.found.holds in b.begins.stands.stopping
+
 -- the floor failed
-pub serves_lost : (j : JudgeSeen) (faults : ℕ) (site : Site) (task : Task) (core : Core) (n : ℕ) (a b : Seen) → is_some (door_of site.config task) ≡ true → IsBegunAt (door_of site.config task) a.floor b.floor → OnlyNow a → n < 2 ^ 60 → IsGoing j site core n a b
-    → Rose a.floor.faults b.floor.faults → Serves j faults site task a b ends.FloorFault
-serves_lost j faults site task core n a b door begun only few going rose = record { door = door; count = n; few = few; served = served j site task core n a b begun only going; rose = rose }
+pub serves_lost : (j : JudgeSeen) (faults : ℕ) (site : Site) (task : Task) (core : Core) (n : ℕ) (a b : Seen) → is_some (door_of site.config task) ≡ true → IsBegunAt (door_of site.config task) a.floor b.floor → OnlyNow a → n < 2 ^ 60 → core.stopping ≡ false
+    → IsGoing j site core n a b → Rose a.floor.faults b.floor.faults → Serves j faults site task a b ends.FloorFault
+serves_lost j faults site task core n a b door begun only few asks going rose = record {
+  door = door;
+  count = n;
+  few = few;
+  begun = begun;
+  over = over site a going.store (λ table. IsAsking j site table n a b) going.found (λ table holds. asks_so j site table core n a b only asks (going.runs table holds));
+  rose = rose;
+}
 
 -- all turns were taken
 pub serves_spent : (j : JudgeSeen) (faults : ℕ) (site : Site) (task : Task) (core : Core) (n most : ℕ) (a b : Seen) → IsBegunAt (door_of site.config task) a.floor b.floor → OnlyNow a → n ≡ most → most ≡ 2 ^ 60 → IsGoing j site core n a b
@@ -218,7 +233,7 @@ served_later j site task n a b is = let r = is.over.run in run_later j site r.st
 pub serves_later : (j : JudgeSeen) (faults : ℕ) (site : Site) (task : Task) (a b : Seen) (how : ServeEnd) → Serves j faults site task a b how → IsNoLess a b
 serves_later j faults site task a b ends.NotOpened is = unserved_later site a b is.0
 serves_later j faults site task a b ends.NoMemory is = unserved_later site a b is
-serves_later j faults site task a b ends.FloorFault is = served_later j site task is.count a b is.served
+serves_later j faults site task a b ends.FloorFault is = let r = is.over.run in run_later j site r.run.start r.run.turns a b true r.run.headline
 serves_later j faults site task a b ends.Finished is = out_later j site task a b (Ok Ended) is
 serves_later j faults site task a b (ends.Over stop) is = out_later j site task a b (Err stop) is.1
 serves_later j faults site task a b (ends.TurnsSpent count) is = served_later j site task count a b is.1

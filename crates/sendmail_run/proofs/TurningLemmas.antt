@@ -24,11 +24,12 @@ use Rattle.mail_core.specs.declared.serving.CoreStop.{CoreStop}
 use Rattle.mail_core.specs.Events.{IsHeardAt, IsTaken, IsTold, Turns, event_of}
 use Rattle.mail_core.specs.Judges.{JudgeSeen, drawing, judging}
 use Rattle.mail_core.specs.Machine.{at_moment}
-use Rattle.mail_core.specs.Plans.{Origin, OfFloor, awaits, comes_from, is_own, reading_of}
+use Rattle.mail_core.specs.Plans.{Origin, OfFloor, OfRun, Plan, comes_from, is_own, reading_of}
 use Rattle.mail_core.specs.Seen.{Seen}
 use Rattle.mail_core.specs.Sites.{Site}
 use Rattle.mail_core.specs.States.{State}
 use Rattle.mail_core.proofs.JudgeLemmas.{alike_itself, event_since, own_meant}
+use Rattle.mail_core.proofs.PlanLemmas.{made_own}
 use Rattle.sendmail_run.specs.declared.task.Task.{Task}
 use Rattle.sendmail_run.specs.declared.task.Task.TheVariants.{Session, Daemon, Run}
 use Rattle.sendmail_run.specs.Serving.{judge_by}
@@ -66,22 +67,22 @@ told_so f g Stop buf told follows later = record { told = told; follows = follow
 
 -- ---- the turn that comes next
 
--- where sessions are served, any event may come until a Stop did
-awaits_all : (task : Task) (event : Event) → is_run task ≡ false → awaits (plan_of task) false event ≡ true
-awaits_all Session event other = refl
-awaits_all (Daemon wait) event other = refl
-awaits_all (Run group) event other = absurd (false≢true (sym other))
+-- where sessions are served, the floor tells any event until a Stop came
+floor_tells : (task : Task) (reading : ℕ) (event : Event) → is_run task ≡ false → comes_from (plan_of task) false (OfFloor reading) event ≡ true
+floor_tells Session reading event other = refl
+floor_tells (Daemon wait) reading event other = refl
+floor_tells (Run group) reading event other = absurd (false≢true (sym other))
 
--- and then Stops alone
-awaits_stop : (task : Task) → is_run task ≡ false → awaits (plan_of task) true Stops ≡ true
-awaits_stop Session other = refl
-awaits_stop (Daemon wait) other = refl
-awaits_stop (Run group) other = absurd (false≢true (sym other))
+-- and then the run makes Stops
+makes_stop : (task : Task) (reading : ℕ) → is_run task ≡ false → comes_from (plan_of task) true (OfRun reading) Stops ≡ true
+makes_stop Session reading other = refl
+makes_stop (Daemon wait) reading other = refl
+makes_stop (Run group) reading other = absurd (false≢true (sym other))
 
-awaits_rest : (task : Task) (stopping : Bool) → is_run task ≡ true → awaits (plan_of task) stopping Rests ≡ true
-awaits_rest Session stopping is = absurd (false≢true is)
-awaits_rest (Daemon wait) stopping is = absurd (false≢true is)
-awaits_rest (Run group) stopping is = refl
+makes_rest : (task : Task) (stopping : Bool) (reading : ℕ) → is_run task ≡ true → comes_from (plan_of task) stopping (OfRun reading) Rests ≡ true
+makes_rest Session stopping reading is = absurd (false≢true is)
+makes_rest (Daemon wait) stopping reading is = absurd (false≢true is)
+makes_rest (Run group) stopping reading is = refl
 
 -- a run over the queue rests
 pub comes_rest : (task : Task) (stopping : Bool) (f : Heard) (buffer : List ℕ) → is_run task ≡ true → Comes task stopping f f Idle false buffer
@@ -89,8 +90,7 @@ comes_rest task stopping f buffer is = record {
   fits = tt;
   heard = tt;
   comes = λ reading. refl;
-  may = λ reading. refl;
-  awaited = awaits_rest task stopping is;
+  may = λ reading. makes_rest task stopping reading is;
   own = λ e. refl;
   alone = λ e. refl;
   begun = refl;
@@ -103,8 +103,7 @@ comes_stop task stopping f buffer other is = record {
   fits = tt;
   heard = tt;
   comes = λ reading. refl;
-  may = λ reading. refl;
-  awaited = subst (λ (s : Bool). awaits (plan_of task) s Stops ≡ true) (sym is) (awaits_stop task other);
+  may = λ reading. subst (λ (s : Bool). comes_from (plan_of task) s (OfRun reading) Stops ≡ true) (sym is) (makes_stop task reading other);
   own = λ e. refl;
   alone = λ e. refl;
   begun = refl;
@@ -118,8 +117,7 @@ comes_told task stopping f g turn buffer other on fits told follows later begun 
   fits = fits;
   heard = heard_at f g turn buffer told follows;
   comes = λ reading. told_so f g turn buffer told follows later;
-  may = λ reading. refl;
-  awaited = subst (λ (s : Bool). awaits (plan_of task) s (event_of turn buffer) ≡ true) (sym on) (awaits_all task (event_of turn buffer) other);
+  may = λ reading. subst (λ (s : Bool). comes_from (plan_of task) s (OfFloor reading) (event_of turn buffer) ≡ true) (sym on) (floor_tells task reading (event_of turn buffer) other);
   own = λ e. absurd (false≢true (sym other ∙ e));
   alone = λ e. absurd (false≢true (sym other ∙ e));
   begun = begun;
@@ -167,9 +165,9 @@ of_session Idle buffer rests stops = absurd (rests refl)
 of_session Stop buffer rests stops = absurd (stops refl)
 
 -- so the floor told it
-pub of_floor : (told : Bool) (reading : ℕ) (event : Event) → is_own event ≡ false → comes_from (origin_of told reading) event ≡ true → OfFloor reading ≡ origin_of told reading
-of_floor true reading event own may = refl
-of_floor false reading event own may = absurd (false≢true (sym own ∙ may))
+pub of_floor : (plan : Plan) (stopping told : Bool) (reading : ℕ) (event : Event) → is_own event ≡ false → comes_from plan stopping (origin_of told reading) event ≡ true → OfFloor reading ≡ origin_of told reading
+of_floor plan stopping true reading event own may = refl
+of_floor plan stopping false reading event own may = absurd (false≢true (sym own ∙ made_own plan stopping reading event may))
 
 pub reading_in : (told : Bool) (reading : ℕ) → reading_of (origin_of told reading) ≡ reading
 reading_in true reading = refl
@@ -193,14 +191,14 @@ begun_still config (Run group) f g h begun same alone = alone refl ∙ begun
 
 -- one that is known to be no session's
 pub turned_as : (turn known : Turn) (buffer : List ℕ) (j : JudgeSeen) (site : Site) (m : State) (told : Bool) (reading : ℕ) (before now : Heard) (clock read : ClockSeen) (a b : Seen) (core : Core) (went : Result Act CoreStop) → turn ≡ known
-    → (awaits site.plan m.stopping (event_of known buffer) ≡ true → reading_of (origin_of told reading) ≡ reading → IsTaken (origin_of told reading) before now clock read (event_of known buffer) → Turns j site m (event_of known buffer) (origin_of told reading) a b core went)
-    → awaits site.plan m.stopping (event_of turn buffer) ≡ true → IsTaken (origin_of told reading) before now clock read (event_of turn buffer) → Turns j site m (event_of turn buffer) (origin_of told reading) a b core went
+    → (comes_from site.plan m.stopping (origin_of told reading) (event_of known buffer) ≡ true → reading_of (origin_of told reading) ≡ reading → IsTaken (origin_of told reading) before now clock read (event_of known buffer) → Turns j site m (event_of known buffer) (origin_of told reading) a b core went)
+    → comes_from site.plan m.stopping (origin_of told reading) (event_of turn buffer) ≡ true → IsTaken (origin_of told reading) before now clock read (event_of turn buffer) → Turns j site m (event_of turn buffer) (origin_of told reading) a b core went
 turned_as turn known buffer j site m told reading before now clock read a b core went same turns =
-    subst (λ (t : Turn). awaits site.plan m.stopping (event_of t buffer) ≡ true → IsTaken (origin_of told reading) before now clock read (event_of t buffer) → Turns j site m (event_of t buffer) (origin_of told reading) a b core went) (sym same)
-    (λ awaited taken. turns awaited (reading_in told reading) taken)
+    subst (λ (t : Turn). comes_from site.plan m.stopping (origin_of told reading) (event_of t buffer) ≡ true → IsTaken (origin_of told reading) before now clock read (event_of t buffer) → Turns j site m (event_of t buffer) (origin_of told reading) a b core went) (sym same)
+    (λ may taken. turns may (reading_in told reading) taken)
 
 -- one of a session, which the floor told
-pub turned_told : (event : Event) (j : JudgeSeen) (site : Site) (m : State) (told : Bool) (reading : ℕ) (before now : Heard) (clock read : ClockSeen) (a b : Seen) (core : Core) (went : Result Act CoreStop) → is_own event ≡ false → comes_from (origin_of told reading) event ≡ true
-    → (IsTaken (OfFloor reading) before now clock read event → Turns j site m event (OfFloor reading) a b core went) → IsTaken (origin_of told reading) before now clock read event → Turns j site m event (origin_of told reading) a b core went
+pub turned_told : (event : Event) (j : JudgeSeen) (site : Site) (m : State) (told : Bool) (reading : ℕ) (before now : Heard) (clock read : ClockSeen) (a b : Seen) (core : Core) (went : Result Act CoreStop) → is_own event ≡ false → comes_from site.plan m.stopping (origin_of told reading) event ≡ true
+    → (comes_from site.plan m.stopping (OfFloor reading) event ≡ true → IsTaken (OfFloor reading) before now clock read event → Turns j site m event (OfFloor reading) a b core went) → IsTaken (origin_of told reading) before now clock read event → Turns j site m event (origin_of told reading) a b core went
 turned_told event j site m told reading before now clock read a b core went own may turns =
-    subst (λ (o : Origin). IsTaken o before now clock read event → Turns j site m event o a b core went) (of_floor told reading event own may) turns
+    subst (λ (o : Origin). comes_from site.plan m.stopping o event ≡ true → IsTaken o before now clock read event → Turns j site m event o a b core went) (of_floor site.plan m.stopping told reading event own may) turns may

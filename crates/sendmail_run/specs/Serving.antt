@@ -1,7 +1,7 @@
 -- How a run that opens the queue ends, and what was served by then (Sendmail Installation and
 -- Operation Guide, "Command Line Flags": -bs, -bd and -q; the replies are those of RFC 5321; the
 -- ends are own).
-use Rattle.std.specs.Prelude.{◌≡◌, ◌⊎◌, ℕ, ◌+◌, ◌^◌, ◌<◌, ◌≤◌, List, [], ◌∷◌, length, take, None, Some, IfSome, is_some, Result, Ok, Err, true}
+use Rattle.std.specs.Prelude.{◌≡◌, ◌⊎◌, ℕ, ◌+◌, ◌^◌, ◌<◌, ◌≤◌, List, [], ◌∷◌, length, take, None, Some, IfSome, is_some, Result, Ok, Err, true, false}
 use Rattle.mail_base.specs.declared.config.Config.{Config}
 use Rattle.mail_base.specs.Histories.{Gains, Rose}
 use Rattle.cf_macros.specs.Expansion.{host_name}
@@ -126,6 +126,12 @@ pub record IsRun (j : JudgeSeen) (site : Site) (table : Table) (count : ℕ) (a 
   pub on : (run_over site start turns).state.over ≡ None
   pub headline : Headline j site start turns a b true
 
+-- so many turns over a table, none of which was a Stop, so that the next is asked of the floor
+pub record IsAsking (j : JudgeSeen) (site : Site) (table : Table) (count : ℕ) (a b : Seen)
+    : Type 0 where
+  pub run : IsRun j site table count a b
+  pub asks : (run_over site run.start run.turns).state.stopping ≡ false
+
 -- so many turns over a table, of which the last ended the run
 pub record HasEnded (j : JudgeSeen) (site : Site) (table : Table) (count : ℕ) (a b : Seen)
     (went : Result Act CoreStop) : Type 0 where
@@ -148,13 +154,14 @@ pub record IsServedOut (j : JudgeSeen) (site : Site) (task : Task) (a b : Seen)
   pub begun : IsBegunAt (door_of site.config task) a.floor b.floor
   pub over : IsOverQueue site a (λ table. HasEnded j site table count a b went)
 
--- the floor was to be begun, and failed as it began, or at the turn after so many, which are fewer
--- than a run may have
+-- the floor was to be begun, and failed as it began, or as it was asked for the turn after so many,
+-- which are fewer than a run may have
 pub record HasLostFloor (j : JudgeSeen) (site : Site) (task : Task) (a b : Seen) : Type 0 where
   pub door : is_some (door_of site.config task) ≡ true
   pub count : ℕ
   pub few : count < 2 ^ 60
-  pub served : IsServed j site task count a b
+  pub begun : IsBegunAt (door_of site.config task) a.floor b.floor
+  pub over : IsOverQueue site a (λ table. IsAsking j site table count a b)
   pub rose : Rose a.floor.faults b.floor.faults
 
 -- how a run ends, where the judge has counted so many faults then: by a fault of the judge only

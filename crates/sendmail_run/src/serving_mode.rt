@@ -9,7 +9,7 @@ ghost use Rattle.spawn_edge.specs.Spawned.{Spawned};
 ghost use Rattle.queue_table.specs.Calls.{Tallies};
 ghost use Rattle.mail_core.specs.Causes.{is_judge_fault, is_well};
 ghost use Rattle.mail_core.specs.Events.{IsHeardAt, IsTaken, Turns, event_of};
-ghost use Rattle.mail_core.specs.Plans.{Origin, OfFloor, awaits, comes_from, is_own, reading_of};
+ghost use Rattle.mail_core.specs.Plans.{Origin, OfFloor, comes_from, is_own, reading_of};
 ghost use Rattle.mail_core.specs.Seen.{Hands, beside, hands, seen};
 ghost use Rattle.mail_core.specs.Sites.{IsUnder, Site};
 ghost use Rattle.mail_core.specs.Standing.{IsStanding, MayGoOn, Stands, table_of};
@@ -219,7 +219,7 @@ fn next_turn<L: Floor>(
         (λ coming. Comes task.now stopping (L.seen floor.old) (L.seen floor.new) coming.turn
         coming.told buffer.new) }
     ensures fails { IfErr result
-        (λ _. FailsAt task.now (L.seen floor.old) (L.seen floor.new)) }
+        (λ _. FailsAt task.now stopping (L.seen floor.old) (L.seen floor.new)) }
 {
     if task.is_run() {
         return Ok(Coming {
@@ -261,8 +261,8 @@ fn take_turn<F: Files, D: Spool, L: Floor, S: Spawner, N: Dialer>(
     ensures turns { (site : Site) (m : State) (told : Bool) (before : Heard)
         (clock read : ClockSeen)
         → IsUnder site config.now maps.now → Stands site core.old m
-        → awaits site.plan m.stopping (event_of turn buffer.now) ≡ true
-        → comes_from (origin_of told reading) (event_of turn buffer.now) ≡ true
+        → comes_from site.plan m.stopping (origin_of told reading) (event_of turn buffer.now)
+        ≡ true
         → IsTaken (origin_of told reading) before (L.seen floor.old) clock read
         (event_of turn buffer.now)
         → Turns (judge_by (grounds_of config.now maps.now names.now) (F.seen files.old)) site m
@@ -314,7 +314,7 @@ fn speak<F: Files, D: Spool, L: Floor>(
     requires tallied { Tallies (table_of core.old) (D.seen spool.old) }
     ensures turns { (site : Site) (m : State) (before : Heard) (clock read : ClockSeen)
         (hands : Hands) → IsUnder site config.now maps.now → Stands site core.old m
-        → awaits site.plan m.stopping (event_of turn buffer.now) ≡ true
+        → comes_from site.plan m.stopping (OfFloor reading) (event_of turn buffer.now) ≡ true
         → IsTaken (OfFloor reading) before (L.seen floor.old) clock read
         (event_of turn buffer.now)
         → Turns (judge_by (grounds_of config.now maps.now names.now) (F.seen files.old)) site m
@@ -356,7 +356,7 @@ fn rest<F: Files, D: Spool, S: Spawner, N: Dialer>(
     requires able { MayGoOn core.old (D.seen spool.old) (S.seen spawner.old) }
     ensures turns { (site : Site) (m : State) (origin : Origin) (before now : Heard)
         (clock read : ClockSeen) → IsUnder site config.now maps.now → Stands site core.old m
-        → awaits site.plan m.stopping Rests ≡ true → reading_of origin ≡ reading
+        → comes_from site.plan m.stopping origin Rests ≡ true → reading_of origin ≡ reading
         → IsTaken origin before now clock read Rests
         → Turns (judge_by (grounds_of config.now maps.now names.now) (F.seen files.old)) site m
         Rests origin
@@ -394,7 +394,7 @@ fn stop<F: Files, D: Spool, S: Spawner, N: Dialer>(
     requires able { MayGoOn core.old (D.seen spool.old) (S.seen spawner.old) }
     ensures turns { (site : Site) (m : State) (origin : Origin) (before now : Heard)
         (clock read : ClockSeen) → IsUnder site config.now maps.now → Stands site core.old m
-        → awaits site.plan m.stopping Stops ≡ true → reading_of origin ≡ reading
+        → comes_from site.plan m.stopping origin Stops ≡ true → reading_of origin ≡ reading
         → IsTaken origin before now clock read Stops
         → Turns (judge_by (grounds_of config.now maps.now names.now) (F.seen files.old)) site m
         Stops origin

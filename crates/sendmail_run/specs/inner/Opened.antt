@@ -20,7 +20,7 @@ use Rattle.mail_core.specs.Crews.{IsManned}
 use Rattle.mail_core.specs.Effects.{readings_of}
 use Rattle.mail_core.specs.Events.{ComesOf, IsHeardAt, event_of}
 use Rattle.mail_core.specs.Judges.{JudgeSeen}
-use Rattle.mail_core.specs.Plans.{Origin, OfFloor, OfRun, awaits, comes_from, is_own}
+use Rattle.mail_core.specs.Plans.{Origin, OfFloor, OfRun, comes_from, is_own}
 use Rattle.mail_core.specs.Seen.{Seen}
 use Rattle.mail_core.specs.Sites.{Site}
 use Rattle.mail_core.specs.Standing.{Begins, table_of}
@@ -87,17 +87,18 @@ pub record Comes (task : Task) (stopping : Bool) (before now : Heard) (turn : Tu
   pub fits : Fits turn buffer
   pub heard : IsHeardAt now turn
   pub comes : (reading : ℕ) → ComesOf (origin_of told reading) before now (event_of turn buffer)
-  pub may : (reading : ℕ) → comes_from (origin_of told reading) (event_of turn buffer) ≡ true
-  pub awaited : awaits (plan_of task) stopping (event_of turn buffer) ≡ true
+  pub may : (reading : ℕ)
+      → comes_from (plan_of task) stopping (origin_of told reading) (event_of turn buffer) ≡ true
   -- a run over the queue makes its turns itself
   pub own : is_run task ≡ true → is_own (event_of turn buffer) ≡ true
   pub alone : is_run task ≡ true → now ≡ before
   pub begun : now.begun ≡ before.begun
   pub faults : now.faults ≡ before.faults
 
--- the floor failed at a turn, and a run over the queue doesn't ask it for one
-pub record FailsAt (task : Task) (before now : Heard) : Type 0 where
+-- the floor failed at a turn, and neither a run over the queue nor one behind a Stop asks for one
+pub record FailsAt (task : Task) (stopping : Bool) (before now : Heard) : Type 0 where
   pub asked : is_run task ≡ false
+  pub on : stopping ≡ false
   pub told : Gains before.told now.told []
   pub begun : now.begun ≡ before.begun
   pub later : before.faults ≤ now.faults

@@ -6,7 +6,7 @@ use Rattle.mail_edge.specs.Seen.{FilesSeen}
 use Rattle.link_edge.specs.declared.place.Place.{Place}
 use Rattle.mail_core.specs.Causes.{is_judge_fault}
 use Rattle.mail_core.specs.Events.{event_of}
-use Rattle.mail_core.specs.Plans.{awaits}
+use Rattle.mail_core.specs.Plans.{comes_from}
 use Rattle.mail_core.specs.Seen.{beside, hands, seen}
 use Rattle.mail_core.specs.declared.act.Act.{Act}
 use Rattle.mail_core.specs.declared.act.Act.TheVariants.{Ended}
@@ -14,7 +14,7 @@ use Rattle.mail_edge.proofs.Causing.{rose_since}
 use Rattle.sendmail_run.specs.Serving.{grounds_of, judge_by, site_of}
 use Rattle.sendmail_run.specs.Tasks.{IsBegunAt, plan_of}
 use Rattle.sendmail_run.specs.inner.Opened.{origin_of}
-use Rattle.sendmail_run.proofs.ServingLemmas.{able_so, files_kept, files_same, files_since, floor_later, going_begin, going_floor, going_more, served_out, serves_lost, serves_spent, spool_ended, standing}
+use Rattle.sendmail_run.proofs.ServingLemmas.{able_so, asks_first, files_kept, files_same, files_since, floor_later, going_begin, going_floor, going_more, served_out, serves_lost, serves_spent, spool_ended, standing}
 use Rattle.sendmail_run.proofs.TurningLemmas.{begun_still, has_door, taken}
 use Rattle.sendmail_run.proofs.serving_mode.serve.Goals as goal
 
@@ -31,6 +31,7 @@ returns-in_default-clause-serves g c =
     (seen (g.L.Floor.seen c.begin_at.new.floor) (g.D.Spool.seen c.opened.new.spool) (beside (g.C.Clock.seen c.opened.new.clock) (hands (g.S.Spawner.seen c.args.spawner.now) (g.N.Dialer.seen c.args.dialer.now))))
     (subst (λ (door : Option (Place × ℕ)). is_some door ≡ true) c.requires.door c.in_default.ensures.door)
     (subst (λ (door : Option (Place × ℕ)). IsBegunAt door (g.L.Floor.seen c.args.floor.now) (g.L.Floor.seen c.begin_at.new.floor)) c.requires.door c.begin_at.ensures.begun) (g.met.D.Spool.only_now c.args.spool.now) (omega arith)
+    (asks_first (site_of c.args.config.now c.args.maps.now (plan_of c.args.task.now)) (g.D.Spool.seen c.args.spool.now).told c.in-Ok.core (g.C.Clock.seen c.args.clock.now) (g.C.Clock.seen c.opened.new.clock) (c.in-Ok.ensures.core c.args.maps.now))
     (going_begin (judge_by (grounds_of c.args.config.now c.args.maps.now c.args.names.now) (g.F.Files.seen c.args.files.now)) (site_of c.args.config.now c.args.maps.now (plan_of c.args.task.now)) c.in-Ok.core (g.L.Floor.seen c.args.floor.now) (g.L.Floor.seen c.begin_at.new.floor) (g.D.Spool.seen c.args.spool.now) (g.D.Spool.seen c.opened.new.spool) (beside (g.C.Clock.seen c.args.clock.now) (hands (g.S.Spawner.seen c.args.spawner.now) (g.N.Dialer.seen c.args.dialer.now))) (beside (g.C.Clock.seen c.opened.new.clock) (hands (g.S.Spawner.seen c.args.spawner.now) (g.N.Dialer.seen c.args.dialer.now)))
     c.in-Ok.ensures.taken c.in-Ok.ensures.sparing c.begin_at.ensures.told c.begin_at.ensures.cause.later c.in-Ok.ensures.later refl (c.in-Ok.ensures.core c.args.maps.now) (c.in-Ok.ensures.able (g.S.Spawner.seen c.args.spawner.now)))
     c.in_default.ensures.cause.failed
@@ -56,7 +57,7 @@ returns-in_default-next_turn-clause-serves g c =
     (seen (g.L.Floor.seen c.next_turn.new.floor) (g.D.Spool.seen c.loop.spool) (beside (g.C.Clock.seen c.loop.clock) (hands (g.S.Spawner.seen c.loop.spawner) (g.N.Dialer.seen c.loop.dialer))))
     (has_door c.args.config.now c.args.task.now fails.asked)
     (begun_still c.args.config.now c.args.task.now (g.L.Floor.seen c.args.floor.now) (g.L.Floor.seen c.loop.floor) (g.L.Floor.seen c.next_turn.new.floor) c.loop.invariant.begun fails.begun (λ run. absurd (false≢true (sym fails.asked ∙ run))))
-    (g.met.D.Spool.only_now c.args.spool.now) (omega (arith, c.loop-test.true))
+    (g.met.D.Spool.only_now c.args.spool.now) (omega (arith, c.loop-test.true)) (sym c.is_stopping.ensures ∙ fails.on)
     (going_floor (judge_by (grounds_of c.args.config.now c.args.maps.now c.args.names.now) (g.F.Files.seen c.args.files.now)) (site_of c.args.config.now c.args.maps.now (plan_of c.args.task.now)) c.loop.core c.loop.counter (seen (g.L.Floor.seen c.args.floor.now) (g.D.Spool.seen c.args.spool.now) (beside (g.C.Clock.seen c.args.clock.now) (hands (g.S.Spawner.seen c.args.spawner.now) (g.N.Dialer.seen c.args.dialer.now))))
     (g.L.Floor.seen c.loop.floor) (g.L.Floor.seen c.next_turn.new.floor) (g.D.Spool.seen c.loop.spool) (beside (g.C.Clock.seen c.loop.clock) (hands (g.S.Spawner.seen c.loop.spawner) (g.N.Dialer.seen c.loop.dialer))) going fails.told fails.later)
     (rose_since (g.L.Floor.seen c.args.floor.now).faults (g.L.Floor.seen c.loop.floor).faults (g.L.Floor.seen c.next_turn.new.floor).faults
@@ -85,8 +86,7 @@ returns-in-Ok-Ended-clause-serves g c =
     (begun_still c.args.config.now c.args.task.now (g.L.Floor.seen c.args.floor.now) (g.L.Floor.seen c.loop.floor) (g.L.Floor.seen c.take_turn.new.floor) c.loop.invariant.begun (c.take_turn.ensures.begun ∙ comes.begun) (λ run. c.take_turn.ensures.alone (comes.own run) ∙ comes.alone run))
     (g.met.D.Spool.only_now c.args.spool.now) (omega (arith, c.loop-test.true)) c.loop.invariant.files c.loop.invariant.going
     (λ m stands. rw c.in-Ok-Ended.field-0-is at c.in-Ok-Ended.ensures.turns (site_of c.args.config.now c.args.maps.now (plan_of c.args.task.now)) m c.in-Ok-next_turn.coming.told (g.L.Floor.seen c.loop.floor) (g.C.Clock.seen c.loop.clock) (g.C.Clock.seen c.now-reading.new.self) (record { config_is = refl; maps_are = refl }) stands
-    (subst (λ (s : Bool). awaits (plan_of c.args.task.now) s (event_of c.in-Ok-next_turn.coming.turn c.next_turn.new.buffer) ≡ true) (c.is_stopping.ensures ∙ stands.stopping) comes.awaited)
-    (comes.may c.now-reading.result)
+    (subst (λ (s : Bool). comes_from (plan_of c.args.task.now) s (origin_of c.in-Ok-next_turn.coming.told c.now-reading.result) (event_of c.in-Ok-next_turn.coming.turn c.next_turn.new.buffer) ≡ true) (c.is_stopping.ensures ∙ stands.stopping) (comes.may c.now-reading.result))
     (taken c.args.task.now c.is_stopping.result (g.L.Floor.seen c.loop.floor) (g.L.Floor.seen c.next_turn.new.floor) c.in-Ok-next_turn.coming.turn c.in-Ok-next_turn.coming.told c.next_turn.new.buffer (g.C.Clock.seen c.loop.clock) (g.C.Clock.seen c.now-reading.new.self) c.now-reading.result comes c.now-reading.ensures.told c.now-reading.ensures.counted))
 
 -- the run can't go on
@@ -102,8 +102,7 @@ returns-in-Err-take_turn-clause-serves g c =
           (begun_still c.args.config.now c.args.task.now (g.L.Floor.seen c.args.floor.now) (g.L.Floor.seen c.loop.floor) (g.L.Floor.seen c.take_turn.new.floor) c.loop.invariant.begun (c.take_turn.ensures.begun ∙ comes.begun) (λ run. c.take_turn.ensures.alone (comes.own run) ∙ comes.alone run))
           (g.met.D.Spool.only_now c.args.spool.now) (omega (arith, c.loop-test.true)) c.loop.invariant.files c.loop.invariant.going
           (λ m stands. c.in-Err-take_turn.ensures.turns (site_of c.args.config.now c.args.maps.now (plan_of c.args.task.now)) m c.in-Ok-next_turn.coming.told (g.L.Floor.seen c.loop.floor) (g.C.Clock.seen c.loop.clock) (g.C.Clock.seen c.now-reading.new.self) (record { config_is = refl; maps_are = refl }) stands
-          (subst (λ (s : Bool). awaits (plan_of c.args.task.now) s (event_of c.in-Ok-next_turn.coming.turn c.next_turn.new.buffer) ≡ true) (c.is_stopping.ensures ∙ stands.stopping) comes.awaited)
-          (comes.may c.now-reading.result)
+          (subst (λ (s : Bool). comes_from (plan_of c.args.task.now) s (origin_of c.in-Ok-next_turn.coming.told c.now-reading.result) (event_of c.in-Ok-next_turn.coming.turn c.next_turn.new.buffer) ≡ true) (c.is_stopping.ensures ∙ stands.stopping) (comes.may c.now-reading.result))
           (taken c.args.task.now c.is_stopping.result (g.L.Floor.seen c.loop.floor) (g.L.Floor.seen c.next_turn.new.floor) c.in-Ok-next_turn.coming.turn c.in-Ok-next_turn.coming.told c.next_turn.new.buffer (g.C.Clock.seen c.loop.clock) (g.C.Clock.seen c.now-reading.new.self) c.now-reading.result comes c.now-reading.ensures.told c.now-reading.ensures.counted)),
     )
 
@@ -119,8 +118,7 @@ loop-preserved g c =
           (seen (g.L.Floor.seen c.take_turn.new.floor) (g.D.Spool.seen c.take_turn.new.spool) (beside (g.C.Clock.seen c.now-reading.new.self) (hands (g.S.Spawner.seen c.take_turn.new.spawner) (g.N.Dialer.seen c.take_turn.new.dialer))))
           c.loop.invariant.files c.loop.invariant.going
           (λ m stands. rw c.in-Ok-Went.field-0-is at c.in-Ok-Went.ensures.turns (site_of c.args.config.now c.args.maps.now (plan_of c.args.task.now)) m c.in-Ok-next_turn.coming.told (g.L.Floor.seen c.loop.floor) (g.C.Clock.seen c.loop.clock) (g.C.Clock.seen c.now-reading.new.self) (record { config_is = refl; maps_are = refl }) stands
-          (subst (λ (s : Bool). awaits (plan_of c.args.task.now) s (event_of c.in-Ok-next_turn.coming.turn c.next_turn.new.buffer) ≡ true) (c.is_stopping.ensures ∙ stands.stopping) comes.awaited)
-          (comes.may c.now-reading.result)
+          (subst (λ (s : Bool). comes_from (plan_of c.args.task.now) s (origin_of c.in-Ok-next_turn.coming.told c.now-reading.result) (event_of c.in-Ok-next_turn.coming.turn c.next_turn.new.buffer) ≡ true) (c.is_stopping.ensures ∙ stands.stopping) (comes.may c.now-reading.result))
           (taken c.args.task.now c.is_stopping.result (g.L.Floor.seen c.loop.floor) (g.L.Floor.seen c.next_turn.new.floor) c.in-Ok-next_turn.coming.turn c.in-Ok-next_turn.coming.told c.next_turn.new.buffer (g.C.Clock.seen c.loop.clock) (g.C.Clock.seen c.now-reading.new.self) c.now-reading.result comes c.now-reading.ensures.told c.now-reading.ensures.counted))
           c.now-reading.ensures.counted (c.in-Ok-Went.ensures.able refl);
       floor = c.take_turn.ensures.own ∙ comes.faults ∙ c.loop.invariant.floor;

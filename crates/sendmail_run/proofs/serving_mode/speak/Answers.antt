@@ -11,11 +11,11 @@ use Rattle.sendmail_run.proofs.TurningLemmas.{turns_session}
 use Rattle.sendmail_run.proofs.serving_mode.speak.Goals as goal
 
 pub returns-clause-turns : goal.returns-clause-turns
-returns-clause-turns g c = λ site m before clock read hands under stands awaited taken.
+returns-clause-turns g c = λ site m before clock read hands under stands comes taken.
     let a = seen before (g.D.Spool.seen c.args.spool.now) (beside clock hands) in
     let b = seen (g.L.Floor.seen c.turn.new.floor) (g.D.Spool.seen c.turn.new.spool) (beside read hands) in
     turns_session (grounds_of c.args.config.now c.args.maps.now c.args.names.now) c.new-grounds.result (g.F.Files.seen c.args.files.now) site m (event_of c.args.turn c.args.buffer.now) (OfFloor c.args.reading) a b c.turn.new.self c.turn.result c.new-grounds.ensures c.requires.session
-    (c.turn.ensures.turns site m before clock read hands under stands awaited taken)
+    (c.turn.ensures.turns site m before clock read hands under stands comes taken)
 
 pub returns-clause-asks : goal.returns-clause-asks
 returns-clause-asks g c =

@@ -10,11 +10,11 @@ use Rattle.sendmail_run.proofs.TurningLemmas.{turns_own}
 use Rattle.sendmail_run.proofs.serving_mode.stop.Goals as goal
 
 pub returns-clause-turns : goal.returns-clause-turns
-returns-clause-turns g c = λ site m origin before now clock read under stands awaited reading taken.
+returns-clause-turns g c = λ site m origin before now clock read under stands comes reading taken.
     let a = seen before (g.D.Spool.seen c.args.spool.now) (beside clock (hands (g.S.Spawner.seen c.args.spawner.now) (g.N.Dialer.seen c.args.dialer.now))) in
     let b = seen now (g.D.Spool.seen c.stop.new.spool) (beside read (hands (g.S.Spawner.seen c.stop.new.spawner) (g.N.Dialer.seen c.stop.new.dialer))) in
     turns_own (grounds_of c.args.config.now c.args.maps.now c.args.names.now) c.new-grounds.result (g.F.Files.seen c.args.files.now) site m Stops origin a b c.stop.new.self c.stop.result c.new-grounds.ensures refl
-    (c.stop.ensures.turns site m origin before now clock read under stands awaited reading taken)
+    (c.stop.ensures.turns site m origin before now clock read under stands comes reading taken)
 
 pub returns-clause-asks : goal.returns-clause-asks
 returns-clause-asks g c =

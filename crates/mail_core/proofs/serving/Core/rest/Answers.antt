@@ -44,11 +44,11 @@ returns g c =
     let rs : Stands r.site old rm = at_stands r.site r.state c.args.self.now c.at.new.self c.args.reading r.stands c.at.ensures.moment c.at.ensures.range in
     let h = c.rest.ensures.rests r.site rm r.under rs.crew rs.intake.stores.holds (sym rs.latest) rs.on in
     record {
-      turns = λ site m origin before floor clock read under st waits is taken.
+      turns = λ site m origin before floor clock read under st comes is taken.
           let mm : State = at_moment m (reading_of origin) in
           let ms : Stands site old mm = subst (λ n. Stands site (record c.args.self.now { intake = c.at.new.self }) (at_moment m n)) (sym is) (at_stands site m c.args.self.now c.at.new.self c.args.reading st c.at.ensures.moment c.at.ensures.range) in
           subst (Turns j site m Rests origin (seen before a.spool (beside clock (hands a.spawner a.dialer))) (seen floor b.spool (beside read (hands b.spawner b.dialer))) now) (sym c.turn_of.ensures)
-          (rest_turns j site m origin old now a b c.rest.result before floor clock read ms st.on waits taken tallies refl refl
+          (rest_turns j site m origin old now a b c.rest.result before floor clock read ms st.on comes taken tallies refl refl
           (c.rest.ensures.rests site mm under ms.crew ms.intake.stores.holds (sym ms.latest) ms.on));
       drawn = subst (λ q. IsDrawn (drawer (g.W.Draws.seen c.args.draws.now) (g.W.Draws.answers c.args.draws.now)) (drawer (g.W.Draws.seen c.rest.new.draws) (g.W.Draws.answers c.rest.new.draws)) (is_judge_fault q)) (sym c.turn_of.ensures)
           (drawn_as _ _ c.rest.result c.rest.ensures.drawn);

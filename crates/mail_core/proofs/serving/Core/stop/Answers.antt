@@ -43,11 +43,11 @@ returns g c =
     let rs : Stands r.site old rm = stop_stands r.site (at_moment r.state c.args.reading) (record c.args.self.now { intake = c.at.new.self }) (at_stands r.site r.state c.args.self.now c.at.new.self c.args.reading r.stands c.at.ensures.moment c.at.ensures.range) in
     let h = c.stop.ensures.stops r.site rm r.under rs.crew rs.intake.stores.holds (sym rs.latest) rs.on in
     record {
-      turns = λ site m origin before floor clock read under st waits is taken.
+      turns = λ site m origin before floor clock read under st comes is taken.
           let mm : State = record (at_moment m (reading_of origin)) { stopping = true } in
           let ms : Stands site old mm = subst (λ n. Stands site (record c.args.self.now { intake = c.at.new.self; stopping = true }) (record (at_moment m n) { stopping = true })) (sym is) (stop_stands site (at_moment m c.args.reading) (record c.args.self.now { intake = c.at.new.self }) (at_stands site m c.args.self.now c.at.new.self c.args.reading st c.at.ensures.moment c.at.ensures.range)) in
           subst (Turns j site m Stops origin (seen before a.spool (beside clock (hands a.spawner a.dialer))) (seen floor b.spool (beside read (hands b.spawner b.dialer))) now) (sym c.turn_of.ensures)
-          (stop_turns j site m origin old now a b c.stop.result before floor clock read ms st.on waits taken tallies refl refl
+          (stop_turns j site m origin old now a b c.stop.result before floor clock read ms st.on comes taken tallies refl refl
           (c.stop.ensures.stops site mm under ms.crew ms.intake.stores.holds (sym ms.latest) ms.on));
       drawn = subst (λ q. IsDrawn (drawer (g.W.Draws.seen c.args.draws.now) (g.W.Draws.answers c.args.draws.now)) (drawer (g.W.Draws.seen c.stop.new.draws) (g.W.Draws.answers c.stop.new.draws)) (is_judge_fault q)) (sym c.turn_of.ensures)
           (drawn_as _ _ c.stop.result c.stop.ensures.drawn);

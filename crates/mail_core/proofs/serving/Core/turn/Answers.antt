@@ -17,8 +17,8 @@ handle-requires-clause-tallied g c = subst (λ (i : Intake). Tallies i.table (g.
 
 pub returns : goal.returns
 returns g c = record {
-  turns = λ site m before clock read hands under st waits taken.
-      turns_of _ site m _ c.args.reading before _ _ clock read hands _ _ _ st.on c.requires.session waits taken
+  turns = λ site m before clock read hands under st comes taken.
+      turns_of _ site m _ c.args.reading before _ _ clock read hands _ _ _ st.on c.requires.session comes taken
       (c.handle.ensures.steps site (at_moment m c.args.reading) (record { clock = read; hands = hands }) under (at_stands site m c.args.self.now c.at.new.self c.args.reading st c.at.ensures.moment c.at.ensures.range));
   asked = c.handle.ensures.behaves.asked;
   fixed = c.handle.ensures.fixed;
