@@ -7,7 +7,6 @@ use Rattle.mail_base.specs.Texts.{has_lf}
 use Rattle.mail_base.specs.Configs.{default_options}
 use Rattle.addr_tokens.specs.Reader.{cut}
 use Rattle.addr_tokens.specs.Scans.{most_tokens}
-use Rattle.mail_submit.specs.Said.{bracketed}
 use Rattle.mail_submit.specs.declared.words.SubmitWords.{SubmitWords}
 
 -- ---- texts
@@ -26,11 +25,10 @@ is_dashed (first ∷ others) = first == 45
 abbrev pub is_address : List ℕ → Bool
 is_address word = not (is_dashed word) && is_one_line word
 
--- a text that a `-f` takes: a line whose path can be cut into tokens, under the operators that
--- addresses have where no configuration names others; `<>` is the null sender
+-- a text that a `-f` takes: a line that can be cut into tokens, under the operators that addresses
+-- have where no configuration names others; `<>` is the null sender
 abbrev pub is_sender : List ℕ → Bool
-is_sender text =
-    is_one_line text && is_some (cut default_options.operator_chars true (bracketed text))
+is_sender text = is_one_line text && is_some (cut default_options.operator_chars true text)
 
 -- ---- options
 
@@ -122,6 +120,8 @@ example : (is_address (codes "ann") ≡ true)
     × (is_address [] ≡ false)
     × (is_sender (codes "<>") ≡ true)
     × (is_sender (codes "bob@c.example") ≡ true)
+    × (is_sender (codes "<bob@c>") ≡ true)
     × (is_sender (codes "bob(") ≡ false)
+    × (is_sender (codes "a>b<c") ≡ false)
 unfolding cut most_tokens
-example = (refl, refl, refl, refl, refl, refl, refl)
+example = (refl, refl, refl, refl, refl, refl, refl, refl, refl)

@@ -5,7 +5,7 @@ ghost use Rattle.command_line.specs.inner.Words.{Adds, is_mail, with_address, wi
 use crate::fault::WordFault;
 use addr_tokens::{cut, default_operators};
 use mail_base::{NoMemory, Seq, Text};
-use mail_submit::{SubmitWords, bracketed};
+use mail_submit::SubmitWords;
 use std::alloc::Global;
 
 /// Nothing is said of mail that is handed over.
@@ -145,7 +145,7 @@ fn is_sender(alloc: Global, text: &[u8]) -> Result<bool, NoMemory>
     if !is_one_line(text) {
         return Ok(false);
     }
-    let path = bracketed(alloc, text)?;
+    let path = Text::of(alloc, text)?;
     let operators = Text::of(alloc, default_operators())?;
     Ok(cut(alloc, &path, &operators, true)?.is_some())
 }
