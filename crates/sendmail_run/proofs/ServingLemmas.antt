@@ -145,7 +145,7 @@ over site a store Run found runs = record {
   each = λ f table told stands. runs (from_id store.next table) (found.each f table told stands);
 }
 
-ran_so : (j : JudgeSeen) (site : Site) (table : Table) (core : Core) (n : ℕ) (a b : Seen) → OnlyNow a → IsOn j site table core n a b → IsRun j site table n a b
+abbrev ran_so : (j : JudgeSeen) (site : Site) (table : Table) (core : Core) (n : ℕ) (a b : Seen) → OnlyNow a → IsOn j site table core n a b → IsRun j site table n a b
 ran_so j site table core n a b only on = record {
   start = on.start;
   table_is = on.table_is;
