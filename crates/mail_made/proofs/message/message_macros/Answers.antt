@@ -18,5 +18,6 @@ returns c = record {
       ∙ ap (λ m. with_value (codes "d") c.in_ok-unix.unix m) (c.in_ok-define-2.ensures.ok
       ∙ ap (λ m. with_value (codes "b") c.in_ok-mail.mail m) (c.in_ok-define.ensures.ok
       ∙ ap (λ v. with_value (codes "a") v c.in_ok-macros.macros) c.in_ok-value.ensures
+      ∙ ap (λ b. with_value (codes "a") (literal b) c.in_ok-macros.macros) c.bytes.ensures
       ∙ ap (λ m. with_value (codes "a") (literal c.in_ok-told.told) m) c.in_ok-macros.ensures))));
 }
