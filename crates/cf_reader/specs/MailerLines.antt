@@ -1,6 +1,6 @@
 -- M lines, by what follows the letter (Sendmail Installation and Operation Guide, "M: Define
 -- Mailer": the first byte of a field's name counts).
-use Rattle.std.specs.Prelude.{◌≡◌, ℕ, max, Bool, true, false, ◌&&◌, ◌||◌, ◌==◌, if◌then◌else◌, is_none, fold, List, [], ◌∷◌, length, Option, None, Some, unwrap_or, codes, refl}
+use Rattle.std.specs.Prelude.{◌≡◌, ℕ, max, Bool, true, false, ◌&&◌, ◌||◌, ◌==◌, if◌then◌else◌, is_none, fold, List, [], ◌∷◌, length, Option, None, Some, unwrap_or, codes, bytes_eq, refl}
 use Rattle.std.specs.List.{list_any}
 use Rattle.mail_base.specs.declared.mailer.Mailer.{Mailer}
 use Rattle.cf_values.specs.Flags.{flags_of}
@@ -72,10 +72,14 @@ first_mailer name = record {
   batch = 100;
 }
 
+-- the ruleset that a mailer names; an empty name is none, and so is `0`
+abbrev pub set_named : List ℕ → Option (List ℕ)
+set_named name = if bytes_eq name (codes "0") then None else if_some name
+
 -- the rulesets of envelope and header, or one for both
 abbrev pub sets_by : List ℕ → Option (List ℕ × List ℕ) → Option (List ℕ) × Option (List ℕ)
-sets_by value None = (if_some (stripped value), if_some (stripped value))
-sets_by value (Some parts) = (if_some (stripped parts.0), if_some (stripped parts.1))
+sets_by value None = (set_named (stripped value), set_named (stripped value))
+sets_by value (Some parts) = (set_named (stripped parts.0), set_named (stripped parts.1))
 
 -- the rulesets before and behind a slash (47), for the envelope and for headers; one without a
 -- slash is both
@@ -147,5 +151,6 @@ example :
     × (fault_of_mailer (codes "x, Z=1") ≡ Some UnknownMailerField)
     × (fault_of_mailer (codes "x, P=/bin/x, M=many") ≡ Some NoPath)
     × (fault_of_mailer (codes "x, P=/bin/x, A=x, M=many") ≡ Some BadOption)
+    × (sets_of (codes "0/Hide") ≡ (None, Some (codes "Hide")))
 unfolding most_number
-example = (refl, refl, refl, refl, refl)
+example = (refl, refl, refl, refl, refl, refl)

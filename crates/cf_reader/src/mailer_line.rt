@@ -1,7 +1,6 @@
 ghost use Rattle.std.specs.Prelude.{◌≡◌, IfOk, OnOk, Some, fold};
 ghost use Rattle.cf_reader.specs.inner.Readings.{Reads};
 ghost use Rattle.mail_base.specs.Whites.{stripped};
-ghost use Rattle.cf_reader.specs.Values.{if_some};
 ghost use Rattle.cf_reader.specs.MailerLines as spec;
 ghost use Rattle.cf_reader.specs.declared.mailer_field.MailerField.TheVariants.{Sender, Recipient};
 
@@ -121,11 +120,22 @@ fn sets(
     header: &[u8],
 ) -> Result<(Option<Text>, Option<Text>), NoMemory>
     ensures { IfOk result
-        (λ sets. sets ≡ (if_some (stripped envelope.now), if_some (stripped header.now))) }
+        (λ sets. sets
+        ≡ (spec.set_named (stripped envelope.now), spec.set_named (stripped header.now))) }
 {
-    let envelope = if_some(alloc, stripped(envelope))?;
-    let header = if_some(alloc, stripped(header))?;
+    let envelope = set_named(alloc, stripped(envelope))?;
+    let header = set_named(alloc, stripped(header))?;
     Ok((envelope, header))
+}
+
+// The ruleset that a mailer names. `0` is none: set 0 chooses mailers, and rewrites no address.
+fn set_named(alloc: Global, name: &[u8]) -> Result<Option<Text>, NoMemory>
+    ensures { IfOk result (λ set. set ≡ spec.set_named name.now) }
+{
+    if name == b"0".as_slice() {
+        return Ok(None);
+    }
+    if_some(alloc, name)
 }
 
 // What ends a line, which is LF where the value is empty.
