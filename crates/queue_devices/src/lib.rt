@@ -9,4 +9,4 @@ mod refusal;
 
 pub use queue_dirs::QueueDirs;
 pub use queue_view::QueueView;
-pub use refusal::directory_line;
+pub use refusal::cause_of;

@@ -4,6 +4,7 @@ ghost use Rattle.std.specs.Prelude.{◌≤◌, None, IfOk, vec_len};
 use crate::stream::read_some;
 use mail_base::{EdgeFault, Text};
 use mail_edge::{Files, LARGEST_FILE};
+use shared_devices::{complain, meaning};
 use std::alloc::Global;
 use std::fs::File;
 use std::io::ErrorKind;
@@ -44,11 +45,20 @@ impl<R: rt::Files + Alloc> Files for DiskFiles<'_, R> {
                 ErrorKind::OutOfMemory => Err(EdgeFault::NoMemory),
                 kind if is_absent(kind) => Ok(None),
                 _ => {
+                    tell_failed(name.bytes(), &error);
                     self.faults = self.faults.saturating_add(1);
                     Err(EdgeFault::Failed)
                 }
             },
         }
+    }
+}
+
+// A line on standard error that says which file failed, and why.
+fn tell_failed(name: &[u8], error: &io::Error) {
+    match error.raw_os_error() {
+        Some(number) => complain(name, meaning(number, &mut [0u8; 128])),
+        None => complain(name, b"too large"),
     }
 }
 

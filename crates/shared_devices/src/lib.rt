@@ -4,6 +4,7 @@
 
 mod books;
 mod change;
+mod complaining;
 mod counting;
 mod descriptor;
 mod joint;
@@ -12,6 +13,7 @@ mod path;
 mod unsynced;
 
 pub use change::Move;
+pub use complaining::{complain, complaint, meaning};
 pub use counting::{counted, counted_edge};
 pub use descriptor::Descriptor;
 pub use joint::{Joint, SYNC};

@@ -1,7 +1,7 @@
 use mail_base::{EdgeFault, Failed, Seq, Text};
 use mail_edge::LARGEST_FILE;
-use queue_devices::{QueueDirs, directory_line};
-use shared_devices::{Descriptor, Joint, Motion};
+use queue_devices::{QueueDirs, cause_of};
+use shared_devices::{Descriptor, Joint, Motion, complaint};
 use spool_disk::Spool;
 use std::alloc::Global;
 use std::fs::File;
@@ -351,7 +351,7 @@ fn a_full_disk_is_a_fault(rt: HostRuntime) {
 
 // Whether this line is that of a directory of the queue with this error.
 fn is_line(error: i32, wanted: &[u8]) -> bool {
-    match directory_line(b"/q", error) {
+    match complaint(b"/q", cause_of(error, &mut [0u8; 128])) {
         Ok(line) => line.as_slice() == wanted,
         Err(Failed) => false,
     }
