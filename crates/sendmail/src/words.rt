@@ -1,9 +1,13 @@
 // The words of the command line.
+use crate::MOST_WORDS;
 use mail_base::{NoMemory, Seq, Text};
-use sendmail_run::Outcome;
+use sendmail_run::{Outcome, WordFault, words};
 use std::alloc::Global;
 use std::env;
 use std::io::ErrorKind;
+
+/// The most bytes of a word that Linux hands to a program, with the NUL behind it.
+const LONGEST: usize = 131_072;
 
 /// What is asked for.
 #[derive(Drop)]
@@ -18,7 +22,7 @@ pub fn read_words(rt: &HostRuntime) -> Result<Asked, Outcome> {
     let arguments = match env::args(rt) {
         Ok(arguments) => arguments,
         Err(error) if error.kind() == ErrorKind::OutOfMemory => return Err(Outcome::NoMemory),
-        Err(_) => return Err(Outcome::Usage(bad_word())),
+        Err(_) => return read_front(rt),
     };
     let mut words = Seq::new(rt.alloc());
     for argument in arguments.skip(1) {
@@ -31,11 +35,7 @@ pub fn read_words(rt: &HostRuntime) -> Result<Asked, Outcome> {
             Err(NoMemory) => return Err(Outcome::NoMemory),
         }
     }
-    Ok(match words.items() {
-        [word, ..] if word.bytes() == b"--help".as_slice() => Asked::Help,
-        [word, ..] if word.bytes() == b"--version".as_slice() => Asked::Version,
-        _ => Asked::Run(words),
-    })
+    Ok(asked(words))
 }
 
 /// How many words stand after the program's name.
@@ -43,16 +43,48 @@ pub fn word_count() -> usize {
     os::arg_count().saturating_sub(1)
 }
 
-// The place of the first word that isn't text, counted from 0 behind the program's name.
-fn bad_word() -> u32 {
-    let mut word = [0u8; 4096];
-    let mut place: u32 = 0;
+fn asked(words: Seq<Text>) -> Asked {
+    match words.items() {
+        [word, ..] if word.bytes() == b"--help".as_slice() => Asked::Help,
+        [word, ..] if word.bytes() == b"--version".as_slice() => Asked::Version,
+        _ => Asked::Run(words),
+    }
+}
+
+// What words ask for of which one isn't text. A run is refused at the first word that is wrong.
+fn read_front(rt: &HostRuntime) -> Result<Asked, Outcome> {
+    let Ok(front) = front(rt) else {
+        return Err(Outcome::NoMemory);
+    };
+    match asked(front) {
+        Asked::Run(front) => Err(refusal(rt.alloc(), &front)),
+        other => Ok(other),
+    }
+}
+
+// The words before the first that isn't text.
+fn front(rt: &HostRuntime) -> Result<Seq<Text>, NoMemory> {
+    let mut word = [0u8; LONGEST];
+    let mut front = Seq::new(rt.alloc());
     for index in 1..os::arg_count() {
         let length = os::arg(index, &mut word).min(word.len());
         if str::from_utf8(&word[..length]).is_err() {
-            return place;
+            return Ok(front);
         }
-        place = place.saturating_add(1);
+        front.push(Text::of(rt.alloc(), &word[..length])?)?;
     }
-    place
+    Ok(front)
+}
+
+// How a run ends whose words are right up to one that isn't text, or are refused before it.
+fn refusal(alloc: Global, front: &Seq<Text>) -> Outcome {
+    if front.len() > MOST_WORDS {
+        return Outcome::Usage(u32::MAX);
+    }
+    let place = front.len() as u32;
+    match words(alloc, front) {
+        Err(WordFault::At(earlier)) => Outcome::Usage(earlier.min(place)),
+        Err(WordFault::NoMemory) => Outcome::NoMemory,
+        Ok(_) => Outcome::Usage(place),
+    }
 }
