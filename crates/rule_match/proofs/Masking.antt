@@ -19,7 +19,7 @@ use Rattle.rule_match.specs.Wants.{Want, is_none, want, wants}
 -- ---- places among places
 
 -- whether a place is among these
-abbrev has : ℕ → List ℕ → Bool
+abbrev pub has : ℕ → List ℕ → Bool
 has place places = list_any (λ other. place == other) places
 
 or_more : (b one other : Bool) → (one ≡ true → other ≡ true) → (b || one) ≡ true → (b || other) ≡ true
@@ -27,7 +27,7 @@ or_more true one other f h = refl
 or_more false one other f h = f h
 
 -- what is known of the place before
-abbrev IsBefore : Option ℕ → ℕ → Type 0
+abbrev pub IsBefore : Option ℕ → ℕ → Type 0
 IsBefore None place = Unit {0}
 IsBefore (Some before) place = before ≡ place
 
@@ -110,7 +110,7 @@ module _ (classes : Classes) (late : List (List Token)) where
 
 -- ---- masks
 
-abbrev one_if : Bool → ℕ
+abbrev pub one_if : Bool → ℕ
 one_if b = cond b 1 0
 
 one_either : (one other : Bool) → one_if (one || other) ≡ max (one_if one) (one_if other)
@@ -136,7 +136,7 @@ places_bit (place ∷ places) mask i =
     let both = one_either (i == place) (has i places) in
     omega arith
 
-mask_bit : (places : List ℕ) (i : ℕ) → bit_at (with_places 0 places) i ≡ one_if (has i places)
+pub mask_bit : (places : List ℕ) (i : ℕ) → bit_at (with_places 0 places) i ≡ one_if (has i places)
 mask_bit places i = let e = places_bit places 0 i in let z = bit_at-zero i in omega arith
 
 and_if : (one other : Bool) → (one ≡ true → other ≡ true) → min (one_if one) (one_if other) ≡ one_if one

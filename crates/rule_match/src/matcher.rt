@@ -1,12 +1,12 @@
 ghost use Rattle.std.specs.Prelude.{◌≡◌, ◌+◌, ◌≤◌, ◌<◌, List, ℕ, ◌∷◌, ◌*◌, IfSome, IfNone, length, drop, count_by, true, false};
-ghost use Rattle.std.specs.List.{list_all, list_any};
-ghost use Rattle.mail_base.specs.Masks.{mask_of};
+ghost use Rattle.std.specs.List.{list_any};
+ghost use Rattle.mail_base.specs.Masks.{edge, mask_of};
 ghost use Rattle.mail_base.specs.Metas.{is_class, is_late, is_meta};
 ghost use Rattle.mail_base.specs.declared.classes.Classes.{Classes};
 ghost use Rattle.mail_base.specs.declared.token.Token.{Token};
 ghost use Rattle.rule_match.specs.Choices.{Fits};
 ghost use Rattle.rule_match.specs.Kept.{IsChoice};
-ghost use Rattle.rule_match.specs.inner.Heads.{has_head};
+ghost use Rattle.rule_match.specs.inner.Heads.{has_head, have_heads, known_place, may_follow, place_behind};
 ghost use Rattle.rule_match.specs.inner.Steps.{front_stands, front_width, is_free, IsFirst, IsFirstFront, IsNext};
 ghost use Rattle.rule_match.specs.Wants.{want, wants, lists_after};
 
@@ -16,6 +16,9 @@ use crate::rows::{ByRows, fixed_length, rows_of};
 use crate::trial::least;
 use crate::walk::{Lengths, found_by};
 use mail_base::{Classes, Item, Pattern, Seq, Token, mask_of};
+
+/// What stands in a mask for an end of the tokens as a neighbour.
+const EDGE: u32 = 40;
 
 /// The match that a rule takes, or `None` exactly where nothing matches. It takes no memory.
 ///
@@ -79,20 +82,65 @@ pub fn lists_wanted(pattern: &Pattern) -> usize
         .count()
 }
 
-/// Whether each `$=x` has a member whose first token may be among the tokens, by their mask.
+/// Whether each `$=x` has a member whose first token may be among the tokens, behind what stands
+/// before it in the items, by their mask.
 fn have_heads(classes: &Classes, items: &[Item], mask: u64) -> bool
-    ensures { result ≡ list_all (has_head mask classes.now) items.now }
+    ensures { result ≡ have_heads mask classes.now (Some edge) items.now }
 {
-    items.iter().all(|item| has_head(classes, item, mask))
+    let mut before = Some(EDGE);
+    for item in items {
+        if !has_head(classes, item, mask, before) {
+            return false;
+        }
+        before = place_behind(before, item);
+    }
+    true
 }
 
-/// The same of one item.
-fn has_head(classes: &Classes, item: &Item, mask: u64) -> bool
-    ensures { result ≡ has_head mask classes.now item.now }
+/// The same of one item, behind what has this place in a mask, where that is known.
+fn has_head(classes: &Classes, item: &Item, mask: u64, before: Option<u32>) -> bool
+    requires { IfSome before (λ place. place < 64) }
+    ensures { result ≡ has_head mask classes.now before item.now }
 {
     match item {
-        Item::InClass(name) => classes.heads(name) & mask != 0,
+        Item::InClass(name) => classes.heads(name) & may_follow(mask, before) != 0,
         _ => true,
+    }
+}
+
+/// The places of a mask that has the pair with what stands before them too, where that is known.
+/// The places of such pairs are those of the second tokens, turned.
+fn may_follow(mask: u64, before: Option<u32>) -> u64
+    requires { IfSome before (λ place. place < 64) }
+    ensures { result ≡ may_follow mask before }
+{
+    match before {
+        Some(before) => mask & mask.rotate_right(before * 7 + 41),
+        None => mask,
+    }
+}
+
+/// The place of what stands before the next item, where that is known.
+fn place_behind(before: Option<u32>, item: &Item) -> Option<u32>
+    requires { IfSome before (λ place. place < 64) }
+    ensures value { result ≡ place_behind before item.now }
+    ensures within { IfSome result (λ place. place < 64) }
+{
+    match item {
+        Item::Exact(token) => known_place(token),
+        Item::Empty => before,
+        _ => None,
+    }
+}
+
+/// The place of an operator in a mask. That of another token isn't asked for.
+fn known_place(token: &Token) -> Option<u32>
+    ensures value { result ≡ known_place token.now }
+    ensures within { IfSome result (λ place. place < 64) }
+{
+    match token {
+        Token::Op(byte) => Some(u32::from(byte.to_ascii_lowercase()) % 64),
+        _ => None,
     }
 }
 
