@@ -45,9 +45,10 @@ pub struct Ran {
 /// Runs the ruleset of a name over tokens (Sendmail Operation Guide, R and S: rewriting rules).
 ///
 /// A rule whose left side wants a bit that the mask of the tokens lacks is passed by without a
-/// search; of more than 64 rules one whose anchor isn't among them costs nothing. An application
-/// makes one new list, which its calls take over. What a `$&x` stands for is cut once, until a
-/// look-up changes a macro. Macros are copied when that happens for the first time.
+/// search; of more than 64 rules, with 16 and more for each token, one whose anchor isn't among the
+/// tokens costs nothing. An application makes one new list, which its calls take over. What a `$&x`
+/// stands for is cut once, until a look-up changes a macro. Macros are copied when that happens for
+/// the first time.
 ///
 /// The faults of one application come in this order: `Loop`, `Work`, a `$&x` of the right side that
 /// can't be cut, its look-ups from the left to the right, `Long`, its calls from the right to the
