@@ -1,4 +1,4 @@
-ghost use Rattle.std.specs.Prelude.{◌≡◌, ◌≤◌, ◌<◌, ◌++◌, ℕ, None, Some, IfErr, IfOk, OnOk, false, true};
+ghost use Rattle.std.specs.Prelude.{◌≡◌, ◌≤◌, ◌<◌, ◌++◌, [], ℕ, None, Some, IfErr, IfOk, OnOk, false, true};
 ghost use Rattle.std.specs.List.{find};
 ghost use Rattle.mail_base.specs.Masks.{mask_of};
 ghost use Rattle.mail_base.specs.Rulesets.{is_named};
@@ -19,7 +19,7 @@ use crate::looking::next_rule;
 use crate::parts::{MOST_TOKENS, Parts};
 use crate::values::Values;
 use mail_base::{
-    Classes, Config, Go, Item, Macros, Pattern, Rule, RuleSet, Seq, Text, Token, TryCopy, mask_of,
+    Classes, Config, Go, Item, Macros, Rule, RuleSet, Seq, Text, Token, TryCopy, mask_of,
 };
 use map_tables::Maps;
 use rule_match::{Cuts, find_into};
@@ -139,11 +139,13 @@ fn run_rules(
     let mut from: u32 = 0;
     let mut times: u32 = 0;
     let mut now = start;
+    let none = Seq::new(values.allocator());
     let mut cuts = Cuts::new();
     let mut mask = mask_of(now.tokens.items());
     while let Some((number, rule)) = next_rule(set, from, &now.tokens, mask) {
         times = times_at(number, from, times);
-        let is_match = match_of(values, rule, &now.tokens, mask, &config.classes, &mut cuts)?;
+        let classes = &config.classes;
+        let is_match = match_of(values, rule, &now.tokens, mask, classes, &none, &mut cuts)?;
         if !is_match {
             from = number + 1;
             times = 0;
@@ -178,8 +180,33 @@ fn times_at(number: u32, from: u32, times: u32) -> u32
 }
 
 /// Whether a rule has a match, with the cuts of the one that it takes, or `BadScan` where a `$&x` of
-/// its left side can't be cut.
+/// its left side can't be cut. It is handed no lists, for a left side without a `$&x`.
+#[inline(always)]
 fn match_of(
+    values: &mut Values,
+    rule: &Rule,
+    tokens: &Seq<Token>,
+    mask: u64,
+    classes: &Classes,
+    no_lists: &Seq<Seq<Token>>,
+    cuts: &mut Cuts,
+) -> Result<bool, RunFault>
+    requires mask { mask ≡ mask_of tokens.now }
+    requires none { no_lists.now ≡ [] }
+    ensures found { IfOk result
+        (MatchFound (is_cut_left (lates values.old) rule.now.left) classes.now
+        (left_lists (lates values.old) rule.now.left) rule.now.left tokens.now cuts.new) }
+    ensures refused { IfErr result (LeftFault (is_cut_left (lates values.old) rule.now.left)) }
+    ensures same { values.new ≡ values.old }
+{
+    if rule.left.has_late() {
+        return match_late(values, rule, tokens, mask, classes, cuts);
+    }
+    Ok(find_into(&rule.left, tokens, mask, classes, no_lists, cuts))
+}
+
+/// The same of any rule, with lists of its own.
+fn match_late(
     values: &mut Values,
     rule: &Rule,
     tokens: &Seq<Token>,
@@ -194,26 +221,12 @@ fn match_of(
     ensures refused { IfErr result (LeftFault (is_cut_left (lates values.old) rule.now.left)) }
     ensures same { values.new ≡ values.old }
 {
-    let late = lists_of(values, &rule.left)?;
+    let late = lists_of(values, rule.left.items())?;
     Ok(find_into(&rule.left, tokens, mask, classes, &late, cuts))
 }
 
 /// The tokens of each `$&x` of a left side, in order, or `BadScan` where one can't be cut.
-fn lists_of(values: &mut Values, left: &Pattern) -> Result<Seq<Seq<Token>>, RunFault>
-    ensures lists { IfOk result
-        (λ lists. (is_cut_left (lates values.old) left.now ≡ true)
-        × (lists ≡ left_lists (lates values.old) left.now)) }
-    ensures refused { IfErr result (LeftFault (is_cut_left (lates values.old) left.now)) }
-    ensures same { values.new ≡ values.old }
-{
-    if !left.has_late() {
-        return Ok(Seq::new(values.allocator()));
-    }
-    all_lists(values, left.items())
-}
-
-/// The same of items.
-fn all_lists(values: &mut Values, items: &[Item]) -> Result<Seq<Seq<Token>>, RunFault>
+fn lists_of(values: &mut Values, items: &[Item]) -> Result<Seq<Seq<Token>>, RunFault>
     ensures lists { IfOk result
         (λ lists. (is_cut_left (lates values.old) items.now ≡ true)
         × (lists ≡ left_lists (lates values.old) items.now)) }

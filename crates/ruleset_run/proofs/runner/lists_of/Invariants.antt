@@ -2,7 +2,7 @@ use Rattle.std.proofs.Common.{◌≡◌, take, true}
 use Rattle.std.specs.List.{list_all, flat_map}
 use Rattle.ruleset_run.specs.Cutting.{is_cut_item, item_lists}
 use Rattle.ruleset_run.specs.inner.Values.{lates}
-use Rattle.ruleset_run.proofs.runner.all_lists.Given as goal
+use Rattle.ruleset_run.proofs.runner.lists_of.Given as goal
 
 -- the lists of the items so far
 abbrev pub invariant-loop-item : goal.invariant-loop-item
