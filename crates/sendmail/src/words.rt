@@ -35,7 +35,7 @@ pub fn read_words(rt: &HostRuntime) -> Result<Asked, Outcome> {
             Err(NoMemory) => return Err(Outcome::NoMemory),
         }
     }
-    Ok(asked(words))
+    Ok(request_of(words))
 }
 
 /// How many words stand after the program's name.
@@ -43,7 +43,7 @@ pub fn word_count() -> usize {
     os::arg_count().saturating_sub(1)
 }
 
-fn asked(words: Seq<Text>) -> Asked {
+fn request_of(words: Seq<Text>) -> Asked {
     match words.items() {
         [word, ..] if word.bytes() == b"--help".as_slice() => Asked::Help,
         [word, ..] if word.bytes() == b"--version".as_slice() => Asked::Version,
@@ -56,7 +56,7 @@ fn read_front(rt: &HostRuntime) -> Result<Asked, Outcome> {
     let Ok(front) = front(rt) else {
         return Err(Outcome::NoMemory);
     };
-    match asked(front) {
+    match request_of(front) {
         Asked::Run(front) => Err(refusal(rt.alloc(), &front)),
         other => Ok(other),
     }
