@@ -62,7 +62,9 @@ fn read_front(rt: &HostRuntime) -> Result<Asked, Outcome> {
     }
 }
 
-// The words before the first that isn't text.
+// The words before the first that isn't text. Its room stands in a frame of its own: each run would
+// have so much stack in memory else.
+#[inline(never)]
 fn front(rt: &HostRuntime) -> Result<Seq<Text>, NoMemory> {
     let mut word = [0u8; LONGEST];
     let mut front = Seq::new(rt.alloc());
