@@ -12,6 +12,14 @@ pub(crate) enum Telling {
     Whole,
 }
 
+/// Adds these bytes, one after the other.
+pub(crate) fn add(text: &mut Text, parts: &[&[u8]]) -> Result<(), NoMemory> {
+    for part in parts {
+        text.extend(part)?;
+    }
+    Ok(())
+}
+
 /// A letter for these users, parted by blanks.
 pub(crate) fn letter_to(alloc: Global, users: &[u8]) -> Result<Letter, NoMemory> {
     Ok(Letter {
@@ -25,19 +33,10 @@ pub(crate) fn letter_to(alloc: Global, users: &[u8]) -> Result<Letter, NoMemory>
 
 fn peers(alloc: Global, hosts: &[u8]) -> Result<Seq<Peer>, NoMemory> {
     let mut peers = Seq::new(alloc);
-    for host in hosts.split(|byte| *byte == b' ') {
-        if !host.is_empty() {
-            peers.push(peer(alloc, host)?)?;
-        }
+    for address in words_of(alloc, hosts)?.into_vec() {
+        peers.push(Peer::Host { address, port: 25 })?;
     }
     Ok(peers)
-}
-
-fn peer(alloc: Global, host: &[u8]) -> Result<Peer, NoMemory> {
-    Ok(Peer::Host {
-        address: Text::of(alloc, host)?,
-        port: 25,
-    })
 }
 
 /// The calls of these numbers, which are below 256.
@@ -99,16 +98,12 @@ fn tell_letter(told: &mut Text, event: &DialEvent) -> Result<(), NoMemory> {
 }
 
 fn letter_of(text: &[u8]) -> u8 {
-    if text.starts_with(b"EHLO") || text.starts_with(b"LHLO") {
-        b'E'
-    } else if text.starts_with(b"..x\r\n") {
-        b'T'
-    } else {
-        first_of(text)
+    if text.starts_with(b"LHLO") {
+        return b'E';
     }
-}
-
-fn first_of(text: &[u8]) -> u8 {
+    if text.starts_with(b"..x\r\n") {
+        return b'T';
+    }
     match text.first() {
         Some(byte) => *byte,
         None => b'?',
@@ -127,16 +122,10 @@ fn tell_event(told: &mut Text, event: &DialEvent) -> Result<(), NoMemory> {
     match event {
         DialEvent::Wrote(_, text) => told.extend(text.bytes()),
         DialEvent::Read(_, _) => Ok(()),
-        DialEvent::Dialled { peer, .. } => tell_peer(told, b'+', peer),
-        DialEvent::Undialled { peer, .. } => tell_peer(told, b'!', peer),
+        DialEvent::Dialled { peer, .. } => add(told, &[b"+", name_of(peer), b" "]),
+        DialEvent::Undialled { peer, .. } => add(told, &[b"!", name_of(peer), b" "]),
         _ => told.push(mark_of(event)),
     }
-}
-
-fn tell_peer(told: &mut Text, mark: u8, peer: &Peer) -> Result<(), NoMemory> {
-    told.push(mark)?;
-    told.extend(name_of(peer))?;
-    told.push(b' ')
 }
 
 fn name_of(peer: &Peer) -> &[u8] {
@@ -146,21 +135,13 @@ fn name_of(peer: &Peer) -> &[u8] {
     }
 }
 
-fn tell_row(told: &mut Text, row: &Result1) -> Result<(), NoMemory> {
+/// Adds a result: `S`, or `D` or `F` with its note, before which a failure has its status.
+pub(crate) fn tell_row(told: &mut Text, row: &Result1) -> Result<(), NoMemory> {
     match row {
         Result1::Sent => told.push(b'S'),
-        Result1::Deferred(note) => tell_note(told, b'D', b"", note.bytes()),
-        Result1::Failed(status, note) => tell_note(told, b'F', status.bytes(), note.bytes()),
+        Result1::Deferred(note) => add(told, &[b"D(", note.bytes(), b")"]),
+        Result1::Failed(status, note) => {
+            add(told, &[b"F(", status.bytes(), b" ", note.bytes(), b")"])
+        }
     }
-}
-
-fn tell_note(told: &mut Text, mark: u8, status: &[u8], note: &[u8]) -> Result<(), NoMemory> {
-    told.push(mark)?;
-    told.push(b'(')?;
-    if !status.is_empty() {
-        told.extend(status)?;
-        told.push(b' ')?;
-    }
-    told.extend(note)?;
-    told.push(b')')
 }

@@ -1,5 +1,5 @@
-//! Tests of what mailers are handed and of what senders are told, byte by byte. They stand apart from
-//! the libraries, which a check would else prove twice.
+//! Tests of what mailers are handed and of what senders are told, byte by byte. They stand apart
+//! from the libraries, which a check would else prove twice.
 #![tactic(auto)]
 
 #[cfg(test)]

@@ -1,3 +1,4 @@
+use crate::dialogues::{add, calls};
 use mail_base::{Macros, Mailer, NoMemory, Seq, Text, literal, words_of};
 use mailer_pipe::{PipeFault, are_arguments, begin, is_argument, takes_users};
 use spawn_edge::{ScriptSpawner, SpawnEvent, Start};
@@ -50,13 +51,11 @@ fn users_of(alloc: Global, users: &[u8]) -> Result<Seq<Text>, NoMemory> {
     Ok(list)
 }
 
-// What a start has: its program, its arguments in angles, and its input.
-fn show_start(text: &mut Text, start: &Start) -> Result<(), NoMemory> {
-    text.extend(start.program.bytes())?;
+// How a start went, and what it has: its program, its arguments in angles, and its input.
+fn show_start(text: &mut Text, went: &[u8], start: &Start) -> Result<(), NoMemory> {
+    add(text, &[went, start.program.bytes()])?;
     for arg in start.args.items() {
-        text.push(b'<')?;
-        text.extend(arg.bytes())?;
-        text.push(b'>')?;
+        add(text, &[b"<", arg.bytes(), b">"])?;
     }
     text.extend(start.input.bytes())
 }
@@ -64,39 +63,48 @@ fn show_start(text: &mut Text, start: &Start) -> Result<(), NoMemory> {
 fn show_events(text: &mut Text, events: &[SpawnEvent]) -> Result<(), NoMemory> {
     for event in events {
         match event {
-            SpawnEvent::Began { start, .. } => {
-                text.push(b'+')?;
-                show_start(text, start)?;
-            }
-            SpawnEvent::Unbegun { start, .. } => {
-                text.push(b'!')?;
-                show_start(text, start)?;
-            }
+            SpawnEvent::Began { start, .. } => show_start(text, b"+", start)?,
+            SpawnEvent::Unbegun { start, .. } => show_start(text, b"!", start)?,
             SpawnEvent::Polled(..) => {}
         }
     }
     Ok(())
 }
 
-// Begins, if the mailer takes users and each of them may be an argument, and shows what is told.
+// Begins, if the mailer takes users and each of them may be an argument.
 fn begun(
     alloc: Global,
     spawner: &mut ScriptSpawner,
     mailer: &Mailer,
     users: &Seq<Text>,
-) -> Result<Option<Text>, PipeFault> {
+) -> Result<(), PipeFault> {
     if !takes_users(mailer) {
-        return Ok(None);
+        return Ok(());
     }
     if !are_arguments(users) {
-        return Ok(None);
+        return Ok(());
     }
     let macros = macros_of(alloc)?;
     let message = Text::of(alloc, b"hi\n")?;
     begin(alloc, spawner, mailer, &macros, users, &message)?;
-    let mut text = Text::new(alloc);
-    show_events(&mut text, spawner.seen())?;
-    Ok(Some(text))
+    Ok(())
+}
+
+// Begins with these words of A, users and failing calls, and shows what is told.
+fn show_begun(
+    text: &mut Text,
+    words: &[u8],
+    users: &[u8],
+    failing: &[u8],
+) -> Result<(), PipeFault> {
+    let alloc = text.allocator();
+    let failing = calls(alloc, failing)?;
+    let mut spawner = ScriptSpawner::new(alloc, Seq::new(alloc), failing);
+    let users = users_of(alloc, users)?;
+    let mailer = mailer_of(alloc, words)?;
+    let answer = begun(alloc, &mut spawner, &mailer, &users);
+    show_events(text, spawner.seen())?;
+    answer
 }
 
 /// The words of A, users, and the start.
@@ -152,22 +160,16 @@ static ROWS: [Row; 20] = [
     (b"mail $u${x a", b"ann,ben", b"+/bin/prog<><><a>hi\n"),
 ];
 
-fn begins_so(alloc: Global, row: &Row) -> Result<bool, PipeFault> {
-    let mailer = mailer_of(alloc, row.0)?;
-    let users = users_of(alloc, row.1)?;
-    let mut spawner = ScriptSpawner::new(alloc, Seq::new(alloc), Seq::new(alloc));
-    match begun(alloc, &mut spawner, &mailer, &users)? {
-        Some(text) => Ok(text.bytes() == row.2),
-        None => Ok(false),
-    }
+fn begins_so(alloc: Global, words: &[u8], users: &[u8], told: &[u8]) -> bool {
+    let mut text = Text::new(alloc);
+    show_begun(&mut text, words, users, b"").is_ok() && text.bytes() == told
 }
 
 #[test]
-fn programs_get_their_arguments(rt: HostRuntime) -> Result<(), PipeFault> {
+fn programs_get_their_arguments(rt: HostRuntime) {
     for (at, row) in ROWS.iter().enumerate() {
-        assert!(rt; begins_so(rt.alloc(), row)?, "row {at}");
+        assert!(rt; begins_so(rt.alloc(), row.0, row.1, row.2), "row {at}");
     }
-    Ok(())
 }
 
 /// The words of A, and whether they give the program its users.
@@ -194,11 +196,10 @@ fn takes_so(alloc: Global, row: &(&[u8], bool)) -> Result<bool, NoMemory> {
 }
 
 #[test]
-fn some_mailers_take_users(rt: HostRuntime) -> Result<(), NoMemory> {
+fn some_mailers_take_users(rt: HostRuntime) {
     for (at, row) in TAKES.iter().enumerate() {
-        assert!(rt; takes_so(rt.alloc(), row)?, "row {at}");
+        assert!(rt; takes_so(rt.alloc(), row) == Ok(true), "row {at}");
     }
-    Ok(())
 }
 
 // So many users, separated by commas, and the start that has each as an argument of its own.
@@ -210,53 +211,35 @@ fn fill(users: &mut Text, start: &mut Text, count: usize) -> Result<(), NoMemory
             users.push(b',')?;
         }
         users.extend(user.as_bytes())?;
-        start.push(b'<')?;
-        start.extend(user.as_bytes())?;
-        start.push(b'>')?;
+        add(start, &[b"<", user.as_bytes(), b">"])?;
     }
     start.extend(b"hi\n")
 }
 
-fn begins_with(alloc: Global, count: usize) -> Result<bool, PipeFault> {
+fn begins_with(alloc: Global, count: usize) -> bool {
     let mut list = Text::new(alloc);
     let mut start = Text::new(alloc);
-    fill(&mut list, &mut start, count)?;
-    let mailer = mailer_of(alloc, b"mail -d $u")?;
-    let users = users_of(alloc, list.bytes())?;
-    let mut spawner = ScriptSpawner::new(alloc, Seq::new(alloc), Seq::new(alloc));
-    match begun(alloc, &mut spawner, &mailer, &users)? {
-        Some(text) => Ok(text.bytes() == start.bytes()),
-        None => Ok(false),
-    }
+    fill(&mut list, &mut start, count).is_ok()
+        && begins_so(alloc, b"mail -d $u", list.bytes(), start.bytes())
 }
 
 #[test]
-fn up_to_a_hundred_users_are_arguments(rt: HostRuntime) -> Result<(), PipeFault> {
+fn up_to_a_hundred_users_are_arguments(rt: HostRuntime) {
     for count in 1..101 {
-        assert!(rt; begins_with(rt.alloc(), count)?, "{count} users");
+        assert!(rt; begins_with(rt.alloc(), count), "{count} users");
     }
-    Ok(())
 }
 
-fn failing_first(alloc: Global) -> Result<Seq<u64>, NoMemory> {
-    let mut failing = Seq::new(alloc);
-    failing.push(0)?;
-    Ok(failing)
+// Whether a start that fails is told with its texts, and is the device's fault.
+fn is_device_fault(alloc: Global) -> bool {
+    let mut text = Text::new(alloc);
+    let answer = show_begun(&mut text, b"mail -d $u", b"ann", b"\0");
+    answer == Err(PipeFault::DeviceFault) && text.bytes() == b"!/bin/prog<-d><ann>hi\n".as_slice()
 }
 
-// A start that fails is told with its texts, and is the device's fault.
 #[test]
-fn a_start_that_fails_is_told(rt: HostRuntime) -> Result<(), NoMemory> {
-    let mailer = mailer_of(rt.alloc(), b"mail -d $u")?;
-    let users = users_of(rt.alloc(), b"ann")?;
-    let failing = failing_first(rt.alloc())?;
-    let mut spawner = ScriptSpawner::new(rt.alloc(), Seq::new(rt.alloc()), failing);
-    let answer = begun(rt.alloc(), &mut spawner, &mailer, &users);
-    assert!(rt; matches!(&answer, Err(PipeFault::DeviceFault)));
-    let mut text = Text::new(rt.alloc());
-    show_events(&mut text, spawner.seen())?;
-    assert!(rt; text.bytes() == b"!/bin/prog<-d><ann>hi\n".as_slice());
-    Ok(())
+fn a_start_that_fails_is_told(rt: HostRuntime) {
+    assert!(rt; is_device_fault(rt.alloc()));
 }
 
 /// A text, and the value of a macro that stands for it.

@@ -2,7 +2,6 @@ use crate::dialogues::{Telling, calls, letter_to, played};
 use mail_base::{NoMemory, Seq, Text};
 use mailer_smtp::Speech;
 use std::alloc::Global;
-use std::test::Fail;
 
 // Two users are asked for. The phases of a dialogue are the replies that it waits for: 0 the
 // greeting, 1 to EHLO or LHLO, 2 to MAIL, 3 and 4 to RCPT, 5 to DATA, 6 behind the text, and 7
@@ -71,6 +70,8 @@ fn usual(phase: u8) -> &'static [u8] {
     }
 }
 
+static SPEECHES: [Speech; 2] = [Speech::Smtp, Speech::Lmtp];
+
 fn is_of(row: u8, speech: Speech) -> bool {
     match speech {
         Speech::Smtp => row != b'l',
@@ -126,10 +127,10 @@ fn goes(
     hosts: &[u8],
     says: Seq<Text>,
     failing: &[u8],
-    wanted: &Text,
+    wanted: &[u8],
 ) -> Result<bool, NoMemory> {
-    let letter = letter_to(alloc, b"a b")?;
     let failing = calls(alloc, failing)?;
+    let letter = letter_to(alloc, b"a b")?;
     let told = played(
         alloc,
         Telling::Letters,
@@ -139,7 +140,7 @@ fn goes(
         says,
         failing,
     )?;
-    Ok(told.bytes() == wanted.bytes())
+    Ok(told.bytes() == wanted)
 }
 
 // Whether a reply in a phase counts for its rows, in one piece and byte by byte, and at the first
@@ -157,30 +158,20 @@ fn counts(
         b"one"
     };
     let pieces = said(alloc, row.1, form.1, false)?;
+    if !goes(alloc, speech, hosts, pieces, b"", wanted.bytes())? {
+        return Ok(false);
+    }
     let bytes = said(alloc, row.1, form.1, true)?;
-    Ok(
-        goes(alloc, speech, hosts, pieces, b"", &wanted)?
-            && goes(alloc, speech, b"one", bytes, b"", &wanted)?,
-    )
+    goes(alloc, speech, b"one", bytes, b"", wanted.bytes())
 }
 
-fn reply_counts(alloc: Global, row: &Row) -> Result<bool, NoMemory> {
+fn each_counts(alloc: Global, speech: Speech, row: &Row) -> bool {
     for form in &FORMS {
-        for speech in [Speech::Smtp, Speech::Lmtp] {
-            if form.0 == row.2 && is_of(row.0, speech) && !counts(alloc, speech, row, form)? {
-                return Ok(false);
-            }
+        if form.0 == row.2 && counts(alloc, speech, row, form) != Ok(true) {
+            return false;
         }
     }
-    Ok(true)
-}
-
-#[test]
-fn a_reply_counts_for_its_rows(rt: HostRuntime) -> Result<(), Fail> {
-    for (at, row) in ROWS.iter().enumerate() {
-        assert!(rt; reply_counts(rt.alloc(), row)?, "row {at}");
-    }
-    Ok(())
+    true
 }
 
 // A reply of that phase that is cut behind so many bytes.
@@ -201,23 +192,11 @@ fn cut_counts(alloc: Global, speech: Speech, row: &Row) -> Result<bool, NoMemory
     let reply = b"250-ok\r\n250 ok\r\n";
     for length in 0..reply.len() {
         let says = cut(alloc, row.1, &reply[..length])?;
-        if !goes(alloc, speech, b"one", says, b"", &wanted)? {
+        if !goes(alloc, speech, b"one", says, b"", wanted.bytes())? {
             return Ok(false);
         }
     }
     Ok(true)
-}
-
-#[test]
-fn a_reply_that_is_cut_short_is_none(rt: HostRuntime) -> Result<(), Fail> {
-    for (at, row) in ROWS.iter().enumerate() {
-        for speech in [Speech::Smtp, Speech::Lmtp] {
-            if row.2 == 0 && is_of(row.0, speech) {
-                assert!(rt; cut_counts(rt.alloc(), speech, row)?, "row {at}");
-            }
-        }
-    }
-    Ok(())
 }
 
 // What is written where the last call before the close fails.
@@ -241,45 +220,46 @@ fn read_of(phase: u8) -> u8 {
     }
 }
 
+// Whether a call that fails counts behind so many bytes of what is written.
+fn call_counts(
+    alloc: Global,
+    speech: Speech,
+    row: &Row,
+    keep: usize,
+    call: u8,
+) -> Result<bool, NoMemory> {
+    let wanted = lost(alloc, row.3, keep, row.4)?;
+    let says = said(alloc, 9, b"", false)?;
+    goes(alloc, speech, b"one", says, &[call], wanted.bytes())
+}
+
 // The read of each phase fails, and the write before it. Calls are counted from the dial on.
-fn fault_counts(alloc: Global, speech: Speech, row: &Row) -> Result<bool, NoMemory> {
+fn fault_counts(alloc: Global, speech: Speech, row: &Row) -> bool {
     let wrote = row.3.len().saturating_sub(1);
     let read = read_of(row.1);
-    let unread = lost(alloc, row.3, wrote, row.4)?;
-    if !goes(
-        alloc,
-        speech,
-        b"one",
-        said(alloc, 9, b"", false)?,
-        &[read],
-        &unread,
-    )? {
-        return Ok(false);
-    }
-    if row.1 == 0 || row.1 == 7 {
-        return Ok(true);
-    }
-    let unwritten = lost(alloc, row.3, wrote.saturating_sub(1), row.4)?;
-    goes(
-        alloc,
-        speech,
-        b"one",
-        said(alloc, 9, b"", false)?,
-        &[read.saturating_sub(1)],
-        &unwritten,
-    )
+    let (keep, write) = (wrote.saturating_sub(1), read.saturating_sub(1));
+    call_counts(alloc, speech, row, wrote, read) == Ok(true)
+        && (row.1 == 0 || row.1 == 7 || call_counts(alloc, speech, row, keep, write) == Ok(true))
+}
+
+// Whether each reply of a row counts, and where that is none in the grammar also one that is cut
+// short and a call that fails.
+fn holds(alloc: Global, speech: Speech, row: &Row) -> bool {
+    each_counts(alloc, speech, row)
+        && (row.2 != 0
+            || cut_counts(alloc, speech, row) == Ok(true) && fault_counts(alloc, speech, row))
 }
 
 #[test]
-fn a_call_that_fails_defers_its_rows(rt: HostRuntime) -> Result<(), Fail> {
+fn replies_count_for_their_rows_and_none_are_cut_short_or_lost(rt: HostRuntime) {
     for (at, row) in ROWS.iter().enumerate() {
-        for speech in [Speech::Smtp, Speech::Lmtp] {
-            if row.2 == 0 && is_of(row.0, speech) {
-                assert!(rt; fault_counts(rt.alloc(), speech, row)?, "row {at}");
-            }
+        for speech in &SPEECHES {
+            assert!(rt;
+                !is_of(row.0, *speech) || holds(rt.alloc(), *speech, row),
+                "row {at}"
+            );
         }
     }
-    Ok(())
 }
 
 /// How a host is left for the next: what it says before its line is gone, what is written, and what
@@ -321,25 +301,20 @@ fn left_so(alloc: Global, way: &(&[u8], &[u8], &[u8]), hosts: u8) -> Result<bool
         b"one two three",
         says,
         &failing[..first],
-        &wanted,
+        wanted.bytes(),
     )
 }
 
-fn hosts_are_left(alloc: Global, hosts: u8) -> Result<bool, NoMemory> {
-    for way in &LEFT {
-        if !left_so(alloc, way, hosts)? {
-            return Ok(false);
+#[test]
+fn hosts_are_left_for_the_next(rt: HostRuntime) {
+    for hosts in 0..4u8 {
+        for way in &LEFT {
+            assert!(rt;
+                left_so(rt.alloc(), way, hosts) == Ok(true),
+                "{hosts} hosts"
+            );
         }
     }
-    Ok(true)
-}
-
-#[test]
-fn hosts_are_left_for_the_next(rt: HostRuntime) -> Result<(), Fail> {
-    for hosts in 0..4u8 {
-        assert!(rt; hosts_are_left(rt.alloc(), hosts)?, "{hosts} hosts");
-    }
-    Ok(())
 }
 
 // A reply of so many lines of so many bytes.
@@ -355,19 +330,22 @@ fn long(alloc: Global, lines: u32, bytes: u32) -> Result<Text, NoMemory> {
     Ok(reply)
 }
 
-fn long_counts(alloc: Global, lines: u32, bytes: u32, told: &[u8]) -> Result<bool, NoMemory> {
-    let reply = long(alloc, lines, bytes)?;
+/// The lines of a reply, the bytes of each, and what is told.
+static LONG: [(u32, u32, &[u8]); 3] = [
+    (100, 2048, b"+EMRRDTQ-=SS"),
+    (101, 6, b"+EMR-=D(bad reply)D(bad reply)"),
+    (1, 2049, b"+EMR-=D(bad reply)D(bad reply)"),
+];
+
+fn long_counts(alloc: Global, row: &(u32, u32, &[u8])) -> Result<bool, NoMemory> {
+    let reply = long(alloc, row.0, row.1)?;
     let says = said(alloc, 3, reply.bytes(), false)?;
-    let wanted = Text::of(alloc, told)?;
-    goes(alloc, Speech::Smtp, b"one", says, b"", &wanted)
+    goes(alloc, Speech::Smtp, b"one", says, b"", row.2)
 }
 
 #[test]
-fn a_reply_has_a_hundred_lines(rt: HostRuntime) -> Result<(), Fail> {
-    let well: &[u8] = b"+EMRRDTQ-=SS";
-    let bad: &[u8] = b"+EMR-=D(bad reply)D(bad reply)";
-    assert!(rt; long_counts(rt.alloc(), 100, 2048, well)?);
-    assert!(rt; long_counts(rt.alloc(), 101, 6, bad)?);
-    assert!(rt; long_counts(rt.alloc(), 1, 2049, bad)?);
-    Ok(())
+fn a_reply_has_a_hundred_lines(rt: HostRuntime) {
+    for (at, row) in LONG.iter().enumerate() {
+        assert!(rt; long_counts(rt.alloc(), row) == Ok(true), "row {at}");
+    }
 }
