@@ -255,7 +255,7 @@ static CASES: [Row; 70] = [
     ),
 ];
 
-const SMALL: Limits = Limits {
+static SMALL: Limits = Limits {
     size: 20,
     recipients: 2,
     hops: 2,
@@ -365,7 +365,7 @@ static SMALL_CASES: [Row; 16] = [
     ),
 ];
 
-pub(crate) const HOPS: Limits = Limits {
+pub(crate) static HOPS: Limits = Limits {
     size: 99_999_999,
     recipients: 20_000,
     hops: 2,
@@ -410,24 +410,24 @@ static HOP_CASES: [Row; 6] = [
     ),
 ];
 
-const LIMITED: Limits = Limits {
+static LIMITED: Limits = Limits {
     size: 60,
     recipients: 2,
     hops: 1,
 };
 
 // The tables by number, each with its configuration.
-fn table(number: usize) -> (Limits, &'static [Row]) {
+fn table(number: usize) -> (&'static Limits, &'static [Row]) {
     match number {
-        0 => (NO_LIMITS, &CASES),
-        1 => (SMALL, &SMALL_CASES),
-        2 => (HOPS, &HOP_CASES),
-        3 => (NO_LIMITS, &SESSIONS),
-        _ => (LIMITED, &LIMITED_SESSIONS),
+        0 => (&NO_LIMITS, &CASES),
+        1 => (&SMALL, &SMALL_CASES),
+        2 => (&HOPS, &HOP_CASES),
+        3 => (&NO_LIMITS, &SESSIONS),
+        _ => (&LIMITED, &LIMITED_SESSIONS),
     }
 }
 
-fn is_replied(alloc: Global, limits: Limits, row: &Row) -> Result<bool, NoMemory> {
+fn is_replied(alloc: Global, limits: &Limits, row: &Row) -> Result<bool, NoMemory> {
     let mut talk = Talk::new(alloc, limits)?;
     talk.take(row.0)?;
     talk.said.clear();
@@ -436,15 +436,12 @@ fn is_replied(alloc: Global, limits: Limits, row: &Row) -> Result<bool, NoMemory
 }
 
 #[test]
-fn lines_get_their_replies_in_their_order_and_messages_are_split(
-    rt: HostRuntime,
-) -> Result<(), NoMemory> {
+fn lines_get_their_replies_in_their_order_and_messages_are_split(rt: HostRuntime) {
     for number in 0..5 {
         let (limits, rows) = table(number);
         for (at, row) in rows.iter().enumerate() {
-            let is_replied = is_replied(rt.alloc(), limits, row)?;
-            assert!(rt; is_replied, "table {number}, row {at}");
+            let is_replied = is_replied(rt.alloc(), limits, row);
+            assert!(rt; is_replied == Ok(true), "table {number}, row {at}");
         }
     }
-    Ok(())
 }

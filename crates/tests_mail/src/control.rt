@@ -139,11 +139,6 @@ fn takes(alloc: Global, place: usize, line: &[u8]) -> Result<bool, NoMemory> {
     comes_back(alloc, place, place.saturating_add(1), &[line])
 }
 
-// Whether the text comes back without one of its lines.
-fn lacks(alloc: Global, place: usize) -> Result<bool, NoMemory> {
-    comes_back(alloc, place, place.saturating_add(1), &[])
-}
-
 // Whether the text comes back with a line behind the next one, if there is one.
 fn swaps(alloc: Global, place: usize) -> Result<bool, NoMemory> {
     let from = place.saturating_add(2);
@@ -174,34 +169,26 @@ fn takes_bytes(alloc: Global) -> Result<bool, NoMemory> {
 static NOTES: [(usize, bool); 4] = [(1, true), (512, true), (0, false), (513, false)];
 
 #[test]
-fn addresses_have_any_bytes_and_notes_512(rt: HostRuntime) -> Result<(), NoMemory> {
-    assert!(rt; takes_bytes(rt.alloc())?);
-    for row in &NOTES {
-        assert!(rt; takes_note(rt.alloc(), row.0)? == row.1, "{}", row.0);
-    }
-    Ok(())
-}
-
-#[test]
-fn fields_have_their_ranges(rt: HostRuntime) -> Result<(), NoMemory> {
+fn fields_have_their_ranges_addresses_any_bytes_and_notes_512(rt: HostRuntime) {
     for (at, row) in EDITS.iter().enumerate() {
-        assert!(rt; takes(rt.alloc(), row.0, row.1)? == row.2, "row {at}");
+        assert!(rt; takes(rt.alloc(), row.0, row.1) == Ok(row.2), "row {at}");
     }
-    Ok(())
+    for row in &NOTES {
+        assert!(rt; takes_note(rt.alloc(), row.0) == Ok(row.1), "{}", row.0);
+    }
+    assert!(rt; takes_bytes(rt.alloc()) == Ok(true));
 }
 
 #[test]
-fn each_line_has_its_place(rt: HostRuntime) -> Result<(), NoMemory> {
+fn each_line_has_its_place(rt: HostRuntime) {
     for place in 0..17usize {
         let is_header = place == 14 || place == 15;
-        assert!(rt; lacks(rt.alloc(), place)? == is_header, "without {place}");
+        let lacks = comes_back(rt.alloc(), place, place + 1, &[]);
+        assert!(rt; lacks == Ok(is_header), "without {place}");
         let is_last = place == 14 || place == 16;
-        assert!(rt;
-            swaps(rt.alloc(), place)? == is_last,
-            "behind the next, {place}"
-        );
+        let swaps = swaps(rt.alloc(), place);
+        assert!(rt; swaps == Ok(is_last), "behind the next, {place}");
     }
-    Ok(())
 }
 
 fn has_its_room(alloc: Global) -> Result<bool, NoMemory> {
@@ -218,7 +205,6 @@ fn has_its_room(alloc: Global) -> Result<bool, NoMemory> {
 }
 
 #[test]
-fn paper_has_its_room(rt: HostRuntime) -> Result<(), NoMemory> {
-    assert!(rt; has_its_room(rt.alloc())?);
-    Ok(())
+fn paper_has_its_room(rt: HostRuntime) {
+    assert!(rt; has_its_room(rt.alloc()) == Ok(true));
 }

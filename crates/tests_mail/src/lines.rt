@@ -116,10 +116,9 @@ fn show_cut(text: &mut Text, bytes: &[u8], grants: &[bool], cuts: Cuts) -> Resul
     show_lines(text, &read_stream(alloc, &pieces, grants)?)
 }
 
-fn reads_so(alloc: Global, row: &Row<'_>, cuts: Cuts) -> Result<bool, NoMemory> {
+fn reads_so(alloc: Global, row: &Row<'_>, cuts: Cuts) -> bool {
     let mut text = Text::new(alloc);
-    show_cut(&mut text, row.0, row.1, cuts)?;
-    Ok(text.bytes() == row.2)
+    show_cut(&mut text, row.0, row.1, cuts).is_ok() && text.bytes() == row.2
 }
 
 static CUTS: [Cuts; 4] = [
@@ -129,31 +128,30 @@ static CUTS: [Cuts; 4] = [
     Cuts::Random(2),
 ];
 
-fn reads_so_at_each(alloc: Global, row: &Row<'_>, each: &[Cuts]) -> Result<bool, NoMemory> {
+fn reads_so_at_each(alloc: Global, row: &Row<'_>, each: &[Cuts]) -> bool {
     for cuts in each {
-        if !reads_so(alloc, row, *cuts)? {
-            return Ok(false);
+        if !reads_so(alloc, row, *cuts) {
+            return false;
         }
     }
-    Ok(true)
+    true
 }
 
 // Whether the lines are the same however their stream is cut.
-fn reads_cut_so(alloc: Global, row: &Row<'_>) -> Result<bool, NoMemory> {
+fn reads_cut_so(alloc: Global, row: &Row<'_>) -> bool {
     for place in 0..row.0.len() {
-        if !reads_so(alloc, row, Cuts::At(place))? {
-            return Ok(false);
+        if !reads_so(alloc, row, Cuts::At(place)) {
+            return false;
         }
     }
     reads_so_at_each(alloc, row, &CUTS)
 }
 
 #[test]
-fn lines_of_a_stream_however_it_is_cut(rt: HostRuntime) -> Result<(), NoMemory> {
+fn lines_of_a_stream_however_it_is_cut(rt: HostRuntime) {
     for (at, row) in ROWS.iter().enumerate() {
-        assert!(rt; reads_cut_so(rt.alloc(), row)?, "row {at}");
+        assert!(rt; reads_cut_so(rt.alloc(), row), "row {at}");
     }
-    Ok(())
 }
 
 /// The bytes of a command before its end, its end, and whether the command is read.
@@ -184,20 +182,19 @@ fn add_shown(shown: &mut Text, row: &Command) -> Result<(), NoMemory> {
 }
 
 // Whether a command is read whole, or is too long, and another one behind it.
-fn is_cut_off(alloc: Global, row: &Command) -> Result<bool, NoMemory> {
+fn is_cut_off(alloc: Global, row: &Command) -> bool {
     let mut stream = Text::new(alloc);
-    add_often(&mut stream, &[(b"x", row.0), (row.1, 1), (b"NOOP\n", 1)])?;
     let mut shown = Text::new(alloc);
-    add_shown(&mut shown, row)?;
-    reads_so_at_each(alloc, &(stream.bytes(), &[], shown.bytes()), &LONG_CUTS)
+    add_often(&mut stream, &[(b"x", row.0), (row.1, 1), (b"NOOP\n", 1)]).is_ok()
+        && add_shown(&mut shown, row).is_ok()
+        && reads_so_at_each(alloc, &(stream.bytes(), &[], shown.bytes()), &LONG_CUTS)
 }
 
 #[test]
-fn a_command_of_more_than_2048_bytes_is_too_long(rt: HostRuntime) -> Result<(), NoMemory> {
+fn a_command_of_more_than_2048_bytes_is_too_long(rt: HostRuntime) {
     for row in &LONG_COMMANDS {
-        assert!(rt; is_cut_off(rt.alloc(), row)?, "{}", row.0);
+        assert!(rt; is_cut_off(rt.alloc(), row), "{}", row.0);
     }
-    Ok(())
 }
 
 fn feed(reader: &mut Lines, piece: &[u8]) -> Result<(), NoMemory> {
@@ -243,11 +240,10 @@ fn keeps_of(alloc: Global, row: &Long) -> Result<bool, NoMemory> {
 }
 
 #[test]
-fn of_a_longer_line_the_first_16777217_bytes_stand(rt: HostRuntime) -> Result<(), NoMemory> {
+fn of_a_longer_line_the_first_16777217_bytes_stand(rt: HostRuntime) {
     for (at, row) in LONG_LINES.iter().enumerate() {
-        assert!(rt; keeps_of(rt.alloc(), row)?, "row {at}");
+        assert!(rt; keeps_of(rt.alloc(), row) == Ok(true), "row {at}");
     }
-    Ok(())
 }
 
 /// What a reader is asked for.
@@ -308,11 +304,10 @@ fn is_told(
 }
 
 #[test]
-fn bytes_after_data_wait_for_its_answer(rt: HostRuntime) -> Result<(), NoMemory> {
+fn bytes_after_data_wait_for_its_answer(rt: HostRuntime) {
     let mut reader = Lines::new(rt.alloc());
     for (at, (step, wanted)) in STEPS.iter().enumerate() {
-        let is_told = is_told(rt.alloc(), &mut reader, step, wanted)?;
-        assert!(rt; is_told, "step {at}");
+        let is_told = is_told(rt.alloc(), &mut reader, step, wanted);
+        assert!(rt; is_told == Ok(true), "step {at}");
     }
-    Ok(())
 }

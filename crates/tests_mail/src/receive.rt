@@ -403,7 +403,7 @@ fn say_after_reset(talk: &mut Talk) -> Result<(), NoMemory> {
 // Some replies no command gets; after want of memory the rest of a message gets no reply.
 #[test]
 fn replies_that_no_command_gets(rt: HostRuntime) -> Result<(), NoMemory> {
-    let mut talk = Talk::new(rt.alloc(), NO_LIMITS)?;
+    let mut talk = Talk::new(rt.alloc(), &NO_LIMITS)?;
     say_unasked(&mut talk)?;
     assert!(rt; talk.said.bytes() == UNASKED);
     say_after_reset(&mut talk)?;

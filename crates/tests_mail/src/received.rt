@@ -50,10 +50,9 @@ fn is_made_of_nothing(alloc: Global) -> Result<bool, NoMemory> {
 }
 
 #[test]
-fn received_is_made(rt: HostRuntime) -> Result<(), NoMemory> {
-    assert!(rt; !is_made_of_nothing(rt.alloc())?);
+fn received_is_made(rt: HostRuntime) {
+    assert!(rt; is_made_of_nothing(rt.alloc()) == Ok(false));
     for (at, row) in ROWS.iter().enumerate() {
-        assert!(rt; is_made(rt.alloc(), row)?, "row {at}");
+        assert!(rt; is_made(rt.alloc(), row) == Ok(true), "row {at}");
     }
-    Ok(())
 }

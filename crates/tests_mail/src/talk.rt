@@ -1,7 +1,7 @@
 use crate::headers::add_class;
 use crate::texts::add;
 use judge_samples::TestJudge;
-use mail_base::{Config, Draw, Id, JudgeFault, Kept, Message, NoMemory, Seq, Text};
+use mail_base::{Config, Id, JudgeFault, Kept, Message, NoMemory, Seq, Text};
 use smtp_lines::{Line, Lines};
 use smtp_receive::{Did, Session};
 use std::alloc::Global;
@@ -10,14 +10,13 @@ use std::alloc::Global;
 pub(crate) type Row = (&'static [u8], &'static [u8], &'static [u8]);
 
 /// The limits that a configuration sets, each 0 where it says nothing.
-#[derive(Clone, Copy)]
 pub(crate) struct Limits {
     pub(crate) size: u64,
     pub(crate) recipients: u64,
     pub(crate) hops: u64,
 }
 
-pub(crate) const NO_LIMITS: Limits = Limits {
+pub(crate) static NO_LIMITS: Limits = Limits {
     size: 0,
     recipients: 0,
     hops: 0,
@@ -47,7 +46,7 @@ impl Drop for Talk {
 }
 
 impl Talk {
-    pub(crate) fn new(alloc: Global, limits: Limits) -> Result<Talk, NoMemory> {
+    pub(crate) fn new(alloc: Global, limits: &Limits) -> Result<Talk, NoMemory> {
         Ok(Talk {
             config: config_of(alloc, limits)?,
             session: session_of(alloc)?,
@@ -98,18 +97,16 @@ impl Talk {
 
     fn tell(&mut self, did: &Did) -> Result<(), NoMemory> {
         match did {
-            Did::Granted(text) => self.grant(text),
+            Did::Granted(text) => {
+                if self.reader.may_turn() {
+                    self.reader.data();
+                }
+                self.said.extend(text.bytes())
+            }
             Did::Reply(text) | Did::Bye(text) => self.said.extend(text.bytes()),
             Did::Taken => self.said.extend(b"+"),
             Did::Message(message) => self.store(message),
         }
-    }
-
-    fn grant(&mut self, text: &Text) -> Result<(), NoMemory> {
-        if self.reader.may_turn() {
-            self.reader.data();
-        }
-        self.said.extend(text.bytes())
     }
 
     fn store(&mut self, message: &Message) -> Result<(), NoMemory> {
@@ -126,26 +123,17 @@ fn session_of(alloc: Global) -> Result<Session, NoMemory> {
 
 fn show(said: &mut Text, message: &Message) -> Result<(), NoMemory> {
     said.extend(message.sender.bytes())?;
-    show_rows(said, &message.rows)?;
+    for row in message.rows.items() {
+        said.extend(row.address.bytes())?;
+    }
     for header in message.headers.items() {
         add(said, &[b"{", header.bytes(), b"}"])?;
     }
     add(said, &[b"[", message.body.bytes(), b"] "])?;
     show_kept(said, &message.kept)?;
-    if message.eight {
-        said.extend(b" 8BITMIME")?;
-    }
-    if message.class == -60 {
-        said.extend(b" bulk")?;
-    }
-    said.extend(b"\r\n")
-}
-
-fn show_rows(said: &mut Text, rows: &Seq<Draw>) -> Result<(), NoMemory> {
-    for row in rows.items() {
-        said.extend(row.address.bytes())?;
-    }
-    Ok(())
+    let eight: &[u8] = if message.eight { b" 8BITMIME" } else { b"" };
+    let class: &[u8] = if message.class == -60 { b" bulk" } else { b"" };
+    add(said, &[eight, class, b"\r\n"])
 }
 
 fn show_kept(said: &mut Text, kept: &Kept) -> Result<(), NoMemory> {
@@ -154,7 +142,7 @@ fn show_kept(said: &mut Text, kept: &Kept) -> Result<(), NoMemory> {
 }
 
 /// The configuration with the classes of `bulk` and `special-delivery`.
-fn config_of(alloc: Global, limits: Limits) -> Result<Config, NoMemory> {
+fn config_of(alloc: Global, limits: &Limits) -> Result<Config, NoMemory> {
     let mut config = Config::new(alloc)?;
     config.options.max_message_size = limits.size;
     config.options.max_recipients_per_message = limits.recipients;
