@@ -1,11 +1,10 @@
-use crate::again::{Course, calls, left_out, unlisted, write_mark};
+use crate::again::{Course, Device, Scene, Way, add, calls, digit, plays, write_mark};
 use link_edge::{DialEvent, Dialer, Peer, ScriptDialer};
 use mail_base::{Failed, NoMemory, Text, TryCopy, texts_of};
 use std::alloc::Global;
 use std::test::Fail;
 
 // What is done with a dialer.
-#[derive(Clone, Copy)]
 enum Act {
     // Dials that port of the host `h`, or, at 0, the socket `/s`.
     Dial(u16),
@@ -15,16 +14,11 @@ enum Act {
     Close(u64),
 }
 
-// A dialer by what its peers say and its failing calls, and what is done with it; how each act
-// went, what it told, and how many calls failed.
-#[derive(Clone, Copy)]
+// A dialer by what its peers say, what is done with it, and how it goes.
 struct Row {
     pieces: &'static [&'static [u8]],
-    failing: &'static [u64],
     acts: &'static [Act],
-    went: &'static [u8],
-    told: &'static [u8],
-    faults: u64,
+    way: Way,
 }
 
 // A long reply, one that fits, and the end of the line.
@@ -40,62 +34,73 @@ const TALK: &[Act] = &[
 ];
 
 // Each call of one dialogue fails in turn.
-const ROWS: &[Row] = &[
+static ROWS: [Row; 9] = [
     Row {
         pieces: PIECES,
-        failing: &[],
         acts: TALK,
-        went: b"1+ 1>220  1>hi 1< 1>250 1x ",
-        told: b"1+h25 1>220  1>hi 1<QUIT 1>250 1x ",
-        faults: 0,
+        way: Way {
+            failing: &[],
+            went: b"1+ 1>220  1>hi 1< 1>250 1x ",
+            told: b"1+h25 1>220  1>hi 1<QUIT 1>250 1x ",
+            faults: 0,
+        },
     },
     Row {
         pieces: PIECES,
-        failing: &[0],
         acts: TALK,
-        went: b"fail no no no no no ",
-        told: b"!h25 ",
-        faults: 1,
+        way: Way {
+            failing: &[0],
+            went: b"fail no no no no no ",
+            told: b"!h25 ",
+            faults: 1,
+        },
     },
     // A line of which a read failed is neither read nor written to any more.
     Row {
         pieces: PIECES,
-        failing: &[1],
         acts: TALK,
-        went: b"1+ fail no no no 1x ",
-        told: b"1+h25 1?> 1x ",
-        faults: 1,
+        way: Way {
+            failing: &[1],
+            went: b"1+ fail no no no 1x ",
+            told: b"1+h25 1?> 1x ",
+            faults: 1,
+        },
     },
     Row {
         pieces: PIECES,
-        failing: &[2],
         acts: TALK,
-        went: b"1+ 1>220  fail no no 1x ",
-        told: b"1+h25 1>220  1?> 1x ",
-        faults: 1,
+        way: Way {
+            failing: &[2],
+            went: b"1+ 1>220  fail no no 1x ",
+            told: b"1+h25 1>220  1?> 1x ",
+            faults: 1,
+        },
     },
     // So is one of which a write failed.
     Row {
         pieces: PIECES,
-        failing: &[3],
         acts: TALK,
-        went: b"1+ 1>220  1>hi fail no 1x ",
-        told: b"1+h25 1>220  1>hi 1?< 1x ",
-        faults: 1,
+        way: Way {
+            failing: &[3],
+            went: b"1+ 1>220  1>hi fail no 1x ",
+            told: b"1+h25 1>220  1>hi 1?< 1x ",
+            faults: 1,
+        },
     },
     Row {
         pieces: PIECES,
-        failing: &[4],
         acts: TALK,
-        went: b"1+ 1>220  1>hi 1< fail 1x ",
-        told: b"1+h25 1>220  1>hi 1<QUIT 1?> 1x ",
-        faults: 1,
+        way: Way {
+            failing: &[4],
+            went: b"1+ 1>220  1>hi 1< fail 1x ",
+            told: b"1+h25 1>220  1>hi 1<QUIT 1?> 1x ",
+            faults: 1,
+        },
     },
-    // An empty piece is an end, and so is each read behind the last piece. What is closed may not be
-    // read, written to or closed.
+    // An empty piece is an end, and so is each read behind the last piece. What is closed may not
+    // be read, written to or closed.
     Row {
         pieces: &[b"", b"ab"],
-        failing: &[],
         acts: &[
             Act::Dial(0),
             Act::Read(1),
@@ -106,14 +111,16 @@ const ROWS: &[Row] = &[
             Act::Write(1, b"a"),
             Act::Close(1),
         ],
-        went: b"1+ 1> 1>ab 1> 1x no no no ",
-        told: b"1+/s 1> 1>ab 1> 1x ",
-        faults: 0,
+        way: Way {
+            failing: &[],
+            went: b"1+ 1> 1>ab 1> 1x no no no ",
+            told: b"1+/s 1> 1>ab 1> 1x ",
+            faults: 0,
+        },
     },
     // Lines have numbers of their own, and a failed dial takes none.
     Row {
         pieces: &[b"a", b"b"],
-        failing: &[1],
         acts: &[
             Act::Dial(0),
             Act::Dial(26),
@@ -123,18 +130,23 @@ const ROWS: &[Row] = &[
             Act::Close(1),
             Act::Close(2),
         ],
-        went: b"1+ fail 2+ 2>a 1>b 1x 2x ",
-        told: b"1+/s !h26 2+h27 2>a 1>b 1x 2x ",
-        faults: 1,
+        way: Way {
+            failing: &[1],
+            went: b"1+ fail 2+ 2>a 1>b 1x 2x ",
+            told: b"1+/s !h26 2+h27 2>a 1>b 1x 2x ",
+            faults: 1,
+        },
     },
     // Peers without pieces say nothing.
     Row {
         pieces: &[],
-        failing: &[],
         acts: &[Act::Dial(25), Act::Read(1), Act::Read(1)],
-        went: b"1+ 1> 1> ",
-        told: b"1+h25 1> 1> ",
-        faults: 0,
+        way: Way {
+            failing: &[],
+            went: b"1+ 1> 1> ",
+            told: b"1+h25 1> 1> ",
+            faults: 0,
+        },
     },
 ];
 
@@ -146,21 +158,6 @@ fn peer(alloc: Global, port: u16) -> Result<Peer, NoMemory> {
         address: Text::of(alloc, b"h")?,
         port,
     })
-}
-
-// Does these acts, and adds how they went.
-fn play(dialer: &mut ScriptDialer, acts: &[Act], went: &mut Course) -> Result<(), NoMemory> {
-    for act in acts {
-        let call = dialer.calls.calls;
-        match act {
-            Act::Dial(port) => dial(dialer, *port, &mut went.text)?,
-            Act::Read(line) => read(dialer, *line, &mut went.text)?,
-            Act::Write(line, bytes) => write(dialer, *line, bytes, &mut went.text)?,
-            Act::Close(line) => close(dialer, *line, &mut went.text)?,
-        }
-        went.note(call)?;
-    }
-    Ok(())
 }
 
 fn dial(dialer: &mut ScriptDialer, port: u16, went: &mut Text) -> Result<(), NoMemory> {
@@ -207,26 +204,10 @@ fn close(dialer: &mut ScriptDialer, line: u64, went: &mut Text) -> Result<(), No
     write_mark(went, line, b"x", b"")
 }
 
-// What a dialer told, a word for each event.
-fn told(alloc: Global, events: &[DialEvent]) -> Result<Text, NoMemory> {
-    let mut text = Text::new(alloc);
-    for event in events {
-        write_event(&mut text, event)?;
-    }
-    Ok(text)
-}
-
 fn write_event(text: &mut Text, event: &DialEvent) -> Result<(), NoMemory> {
     match event {
-        DialEvent::Dialled { peer, line, .. } => {
-            text.push(b'0' + (*line % 10) as u8)?;
-            text.push(b'+')?;
-            write_peer(text, peer)
-        }
-        DialEvent::Undialled { peer, .. } => {
-            text.push(b'!')?;
-            write_peer(text, peer)
-        }
+        DialEvent::Dialled { peer, line, .. } => write_peer(text, &digit(*line), b"+", peer),
+        DialEvent::Undialled { peer, .. } => write_peer(text, b"", b"!", peer),
         DialEvent::Read(line, bytes) => write_mark(text, *line, b">", bytes.bytes()),
         DialEvent::Unread(line) => write_mark(text, *line, b"?>", b""),
         DialEvent::Wrote(line, bytes) => write_mark(text, *line, b"<", bytes.bytes()),
@@ -235,119 +216,82 @@ fn write_event(text: &mut Text, event: &DialEvent) -> Result<(), NoMemory> {
     }
 }
 
-// A peer, its port by its last two digits.
-fn write_peer(text: &mut Text, peer: &Peer) -> Result<(), NoMemory> {
+// A line, how its dial went, and its peer, whose port is written by its last two digits.
+fn write_peer(text: &mut Text, line: &[u8], mark: &[u8], peer: &Peer) -> Result<(), NoMemory> {
     match peer {
         Peer::Host { address, port } => {
-            text.extend(address.bytes())?;
-            text.push(b'0' + (*port / 10 % 10) as u8)?;
-            text.push(b'0' + (*port % 10) as u8)?;
+            add(text, &[line, mark, address.bytes()])?;
+            add(
+                text,
+                &[&digit(*port as u64 / 10), &digit(*port as u64), b" "],
+            )
         }
-        Peer::Path(path) => text.extend(path.bytes())?,
+        Peer::Path(path) => add(text, &[line, mark, path.bytes(), b" "]),
     }
-    text.push(b' ')
 }
 
-// How many failed calls were told, and how many weren't.
-fn failures(dialer: &ScriptDialer) -> (u64, u64) {
-    let mut shown = 0u64;
-    let mut hidden = dialer.missed;
-    for event in dialer.seen() {
-        match event {
-            DialEvent::Dialled { missed, .. } => hidden = hidden.saturating_add(*missed),
-            DialEvent::Undialled { missed, .. } => {
-                hidden = hidden.saturating_add(*missed);
-                shown = shown.saturating_add(1);
+impl Device for ScriptDialer {
+    fn counts(&self) -> (u64, u64) {
+        (self.calls.faults, self.starved)
+    }
+
+    fn failures(&self) -> (u64, u64) {
+        let mut shown = 0u64;
+        let mut hidden = self.missed;
+        for event in self.seen() {
+            match event {
+                DialEvent::Dialled { missed, .. } => hidden = hidden.saturating_add(*missed),
+                DialEvent::Undialled { missed, .. } => {
+                    hidden = hidden.saturating_add(*missed);
+                    shown = shown.saturating_add(1);
+                }
+                DialEvent::Unread(_) => shown = shown.saturating_add(1),
+                DialEvent::Unwritten(_) => shown = shown.saturating_add(1),
+                _ => {}
             }
-            DialEvent::Unread(_) => shown = shown.saturating_add(1),
-            DialEvent::Unwritten(_) => shown = shown.saturating_add(1),
-            _ => {}
         }
+        (shown, hidden)
     }
-    (shown, hidden)
+
+    fn told(&self, alloc: Global) -> Result<Text, NoMemory> {
+        let mut text = Text::new(alloc);
+        for event in self.seen() {
+            write_event(&mut text, event)?;
+        }
+        Ok(text)
+    }
 }
 
-// Whether a dialer told what one told that lacked no memory, but for the calls that it only counts.
-fn is_retold(
-    alloc: Global,
-    dialer: &ScriptDialer,
-    listed: &ScriptDialer,
-) -> Result<bool, NoMemory> {
-    let (_told, missed) = failures(listed);
-    if listed.starved > 0 || missed > 0 {
-        return Err(NoMemory);
+impl Scene<ScriptDialer> for Row {
+    fn way(&self) -> &Way {
+        &self.way
     }
-    let whole = told(alloc, listed.seen())?;
-    let told = told(alloc, dialer.seen())?;
-    let (_shown, hidden) = failures(dialer);
-    Ok(left_out(&told, &whole) == Some(hidden))
-}
 
-impl Row {
-    fn dialer(&self, alloc: Global, failing: &[u64]) -> Result<ScriptDialer, NoMemory> {
+    fn device(&self, alloc: Global, failing: &[u64]) -> Result<ScriptDialer, NoMemory> {
         let failing = calls(alloc, failing)?;
         Ok(ScriptDialer::new(alloc, texts_of(alloc, self.pieces)?, failing))
     }
 
-    // Where memory wasn't wanting, all is as the row has it. Where it was, each failed call is told
-    // or counted all the same, and all is as where those calls are listed.
-    fn is_played(
-        &self,
-        alloc: Global,
-        dialer: &mut ScriptDialer,
-        went: &mut Course,
-    ) -> Result<bool, NoMemory> {
-        play(dialer, self.acts, went)?;
-        let (shown, hidden) = failures(dialer);
-        Ok(
-            shown.saturating_add(hidden) == dialer.calls.faults
-                && dialer.starved == unlisted(&went.failed, self.failing)
-                && (dialer.starved > 0 || hidden > 0 || self.is_whole(alloc, dialer, went)?)
-                && self.is_repeated(alloc, dialer, went)?,
-        )
-    }
-
-    fn is_whole(
-        &self,
-        alloc: Global,
-        dialer: &ScriptDialer,
-        went: &Course,
-    ) -> Result<bool, NoMemory> {
-        let told = told(alloc, dialer.seen())?;
-        Ok(
-            went.text.bytes() == self.went
-                && told.bytes() == self.told
-                && dialer.calls.faults == self.faults,
-        )
-    }
-
-    fn is_repeated(
-        &self,
-        alloc: Global,
-        dialer: &ScriptDialer,
-        first: &Course,
-    ) -> Result<bool, NoMemory> {
-        let mut listed = self.dialer(alloc, first.failed.items())?;
-        let mut again = Course::new(alloc);
-        play(&mut listed, self.acts, &mut again)?;
-        Ok(
-            is_retold(alloc, dialer, &listed)?
-                && again.text == first.text
-                && listed.calls.faults == dialer.calls.faults,
-        )
-    }
-
-    fn plays(&self, alloc: Global) -> Result<bool, NoMemory> {
-        let mut dialer = self.dialer(alloc, self.failing)?;
-        let mut went = Course::new(alloc);
-        self.is_played(alloc, &mut dialer, &mut went)
+    fn play(&self, device: &mut ScriptDialer, went: &mut Course) -> Result<(), NoMemory> {
+        for act in self.acts {
+            let call = device.calls.calls;
+            let done = match act {
+                Act::Dial(port) => dial(device, *port, &mut went.text),
+                Act::Read(line) => read(device, *line, &mut went.text),
+                Act::Write(line, bytes) => write(device, *line, bytes, &mut went.text),
+                Act::Close(line) => close(device, *line, &mut went.text),
+            };
+            done?;
+            went.note(call)?;
+        }
+        Ok(())
     }
 }
 
 #[test]
 fn peers_say_their_pieces_and_the_list_decides(rt: HostRuntime) -> Result<(), Fail> {
     for (at, row) in ROWS.iter().enumerate() {
-        assert!(rt; row.plays(rt.alloc())?, "row {at}");
+        assert!(rt; plays::<ScriptDialer, Row>(rt.alloc(), row)?, "row {at}");
     }
     Ok(())
 }
@@ -368,9 +312,11 @@ fn is_copied(alloc: Global, port: u16) -> Result<bool, NoMemory> {
 }
 
 #[test]
-fn a_peer_is_copied(rt: HostRuntime) -> Result<(), Fail> {
+fn a_peer_is_copied(rt: HostRuntime) {
     for port in b"\x00\x19" {
-        assert!(rt; is_copied(rt.alloc(), *port as u16)?, "port {port}");
+        assert!(rt;
+            is_copied(rt.alloc(), *port as u16) == Ok(true),
+            "port {port}"
+        );
     }
-    Ok(())
 }

@@ -7,7 +7,6 @@ use std::alloc::Global;
 use std::test::Fail;
 
 // What is done with a floor.
-#[derive(Clone, Copy)]
 enum Act {
     Begin,
     // So many turns.
@@ -17,9 +16,9 @@ enum Act {
 }
 
 impl Act {
-    fn times(self) -> u32 {
+    fn times(&self) -> u32 {
         match self {
-            Act::Turns(turns) => turns,
+            Act::Turns(turns) => *turns,
             _ => 1,
         }
     }
@@ -117,7 +116,7 @@ impl Hearing {
     }
 
     // Adds the word of an answer, and where that is a failure the call, which came behind so many.
-    fn note(&mut self, act: Act, answer: Answer, calls: (u64, u64)) -> Result<(), NoMemory> {
+    fn note(&mut self, act: &Act, answer: Answer, calls: (u64, u64)) -> Result<(), NoMemory> {
         self.text.extend(answer.word())?;
         match (answer, act) {
             (Answer::Failed, Act::Send(_, _)) => self.sends.push(calls.1),
@@ -132,23 +131,23 @@ fn play<F: Driven>(floor: &mut F, acts: &[Act], heard: &mut Hearing) -> Result<(
     for act in acts {
         for _ in 0..act.times() {
             let calls = floor.calls();
-            let answer = done(floor, *act, &mut heard.text)?;
-            heard.note(*act, answer, calls)?;
+            let answer = done(floor, act, &mut heard.text)?;
+            heard.note(act, answer, calls)?;
         }
     }
     Ok(())
 }
 
 // Does an act once. A turn that brings something is heard at its place.
-fn done<F: Driven>(floor: &mut F, act: Act, heard: &mut Text) -> Result<Answer, NoMemory> {
+fn done<F: Driven>(floor: &mut F, act: &Act, heard: &mut Text) -> Result<Answer, NoMemory> {
     match act {
         Act::Begin => Ok(Answer::of(floor.begin(&Place::Standard, 0))),
         Act::Turns(_) => hear(floor, heard),
         Act::Send(session, bytes) => {
             let bytes = Text::of(heard.allocator(), bytes)?;
-            Ok(floor.say(session, &bytes))
+            Ok(floor.say(*session, &bytes))
         }
-        Act::HangUp(session) => Ok(floor.part(session)),
+        Act::HangUp(session) => Ok(floor.part(*session)),
     }
 }
 
@@ -167,7 +166,6 @@ fn hear<F: Floor>(floor: &mut F, heard: &mut Text) -> Result<Answer, NoMemory> {
 }
 
 // A step as a row has it.
-#[derive(Clone, Copy)]
 enum Move {
     Open(&'static [u8]),
     Say(u64, &'static [u8]),
@@ -175,18 +173,17 @@ enum Move {
 }
 
 impl Move {
-    fn step(self, alloc: Global) -> Result<Step, NoMemory> {
+    fn step(&self, alloc: Global) -> Result<Step, NoMemory> {
         match self {
             Move::Open(peer) => Ok(Step::Open(Text::of(alloc, peer)?)),
-            Move::Say(session, bytes) => Ok(Step::Say(session, Text::of(alloc, bytes)?)),
-            Move::Close(session) => Ok(Step::Close(session)),
+            Move::Say(session, bytes) => Ok(Step::Say(*session, Text::of(alloc, bytes)?)),
+            Move::Close(session) => Ok(Step::Close(*session)),
         }
     }
 }
 
 // A floor by its steps and its failing turns and sends, and what is done with it; what was heard of
 // it, what it told, and its counts of faults: of turns and of sends.
-#[derive(Clone, Copy)]
 struct ScriptRow {
     moves: &'static [Move],
     turns: &'static [u64],
@@ -210,7 +207,7 @@ const TWO_SESSIONS: &[Move] = &[
 const LONG_BYTES: &[u8] =
     b"rest 1+ 1>aaaaaaaaaaaaaaaaaaaaaaaaaaaaaaaaaaaaaaaaaaaaaaaaaaaaaaaaaaaaaaaa 1>aaaaaa stop ";
 
-const SCRIPTS: &[ScriptRow] = &[
+static SCRIPTS: [ScriptRow; 5] = [
     // A script brings its steps and stops. What a session that is closed says is nothing.
     ScriptRow {
         moves: TWO_SESSIONS,
@@ -302,8 +299,8 @@ fn is_retold(alloc: Global, floor: &ScriptFloor, listed: &ScriptFloor) -> Result
 }
 
 impl ScriptRow {
-    // Where memory wasn't wanting, all is as the row has it. Where it was, all is as where the calls
-    // that failed are listed.
+    // Where memory wasn't wanting, all is as the row has it. Where it was, all is as where the
+    // calls that failed are listed.
     fn is_played(
         &self,
         alloc: Global,
@@ -370,7 +367,6 @@ fn a_script_is_played_as_its_steps_and_lists_say(rt: HostRuntime) -> Result<(), 
 
 // The failing calls of a source of `some bytes` and of a sink, and what is done with the floor over
 // both; what was heard of it, and what was written.
-#[derive(Clone, Copy)]
 struct OneRow {
     takes: &'static [u64],
     gives: &'static [u64],
@@ -379,7 +375,7 @@ struct OneRow {
     written: &'static [u8],
 }
 
-const ONE_SESSION: &[OneRow] = &[
+static ONE_SESSION: [OneRow; 3] = [
     // The source is given whole, and only the one session is sent to.
     OneRow {
         takes: &[],
@@ -449,11 +445,10 @@ impl OneRow {
 }
 
 #[test]
-fn one_floor_is_one_session(rt: HostRuntime) -> Result<(), Fail> {
+fn one_floor_is_one_session(rt: HostRuntime) {
     for (at, row) in ONE_SESSION.iter().enumerate() {
-        assert!(rt; row.plays(rt.alloc())?, "row {at}");
+        assert!(rt; row.plays(rt.alloc()) == Ok(true), "row {at}");
     }
-    Ok(())
 }
 
 // Whether the parts of a floor that did nothing are those that it was made of.
@@ -464,9 +459,8 @@ fn gives_its_parts(row: &OneRow, alloc: Global) -> Result<bool, NoMemory> {
 }
 
 #[test]
-fn a_floor_gives_back_its_parts(rt: HostRuntime) -> Result<(), Fail> {
-    assert!(rt; gives_its_parts(&ONE_SESSION[0], rt.alloc())?);
-    Ok(())
+fn a_floor_gives_back_its_parts(rt: HostRuntime) {
+    assert!(rt; gives_its_parts(&ONE_SESSION[0], rt.alloc()) == Ok(true));
 }
 
 fn is_port(place: &Place) -> bool {
@@ -476,15 +470,14 @@ fn is_port(place: &Place) -> bool {
     }
 }
 
-fn are_copied(port: &Place) -> Result<bool, NoMemory> {
+fn are_copied(alloc: Global) -> Result<bool, NoMemory> {
+    let address = Text::of(alloc, b"127.0.0.1")?;
+    let port = Place::Port { address, port: 25 };
     let copy = port.copy()?;
     Ok(is_port(&copy) && matches!(&Place::Standard.copy()?, Place::Standard))
 }
 
 #[test]
-fn a_place_is_copied(rt: HostRuntime) -> Result<(), Fail> {
-    let address = Text::of(rt.alloc(), b"127.0.0.1")?;
-    let port = Place::Port { address, port: 25 };
-    assert!(rt; are_copied(&port)?);
-    Ok(())
+fn a_place_is_copied(rt: HostRuntime) {
+    assert!(rt; are_copied(rt.alloc()) == Ok(true));
 }
