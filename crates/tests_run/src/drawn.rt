@@ -1,19 +1,20 @@
 // Rows of messages, as lines.
-use mail_base::{Cause, Draw, NoMemory, Resolved, RouteError, Seq, Status, Text, Triple};
+use crate::listed::add;
+use mail_base::{Cause, Draw, NoMemory, Resolved, RouteError, Seq, Status, Text, Triple, words_of};
 use std::alloc::Global;
 
-/// The word at a place of a line, in which one blank stands between two.
-pub(crate) fn word(line: &[u8], place: usize) -> &[u8] {
-    match line.split(|byte| *byte == b' ').nth(place) {
-        Some(word) => word,
+/// The word at a place, or nothing.
+pub(crate) fn word(words: &Seq<Text>, place: usize) -> &[u8] {
+    match words.get(place) {
+        Some(word) => word.bytes(),
         None => b"",
     }
 }
 
-fn triple_of(alloc: Global, mailer: &[u8], host: &[u8], user: &[u8]) -> Result<Resolved, NoMemory> {
-    let mailer = Text::of(alloc, mailer)?;
-    let host = Text::of(alloc, host)?;
-    let user = Text::of(alloc, user)?;
+fn triple_of(alloc: Global, words: &Seq<Text>) -> Result<Resolved, NoMemory> {
+    let mailer = Text::of(alloc, word(words, 2))?;
+    let host = Text::of(alloc, word(words, 3))?;
+    let user = Text::of(alloc, word(words, 4))?;
     Ok(Resolved::Goes(Triple { mailer, host, user }))
 }
 
@@ -31,24 +32,28 @@ fn error_of(alloc: Global, text: &[u8]) -> Result<Resolved, NoMemory> {
     }))
 }
 
-fn resolved_of(alloc: Global, line: &[u8]) -> Result<Resolved, NoMemory> {
-    if word(line, 2) == b"error".as_slice() {
-        return error_of(alloc, word(line, 3));
+fn resolved_of(alloc: Global, words: &Seq<Text>) -> Result<Resolved, NoMemory> {
+    if word(words, 2) == b"error".as_slice() {
+        return error_of(alloc, word(words, 3));
     }
-    triple_of(alloc, word(line, 2), word(line, 3), word(line, 4))
+    triple_of(alloc, words)
 }
 
-/// A row of a line: address, sender, and mailer, host and user, or `error` and a text.
-pub(crate) fn row_of(alloc: Global, line: &[u8]) -> Result<Draw, NoMemory> {
-    let address = Text::of(alloc, word(line, 0))?;
-    let sender = Text::of(alloc, word(line, 1))?;
-    let resolved = resolved_of(alloc, line)?;
+fn row_by(alloc: Global, words: &Seq<Text>) -> Result<Draw, NoMemory> {
+    let address = Text::of(alloc, word(words, 0))?;
+    let sender = Text::of(alloc, word(words, 1))?;
+    let resolved = resolved_of(alloc, words)?;
     Ok(Draw {
         address,
         sender,
         primary: true,
         resolved,
     })
+}
+
+/// A row of a line: address, sender, and mailer, host and user, or `error` and a text.
+pub(crate) fn row_of(alloc: Global, line: &[u8]) -> Result<Draw, NoMemory> {
+    row_by(alloc, &words_of(alloc, line)?)
 }
 
 /// The rows of lines.
@@ -63,8 +68,7 @@ pub(crate) fn rows_of(alloc: Global, lines: &[&[u8]]) -> Result<Seq<Draw>, NoMem
 /// Adds the addresses of rows to a text, each behind a blank.
 pub(crate) fn put_addresses(out: &mut Text, rows: &[Draw]) -> Result<(), NoMemory> {
     for row in rows {
-        out.push(b' ')?;
-        out.extend(row.address.bytes())?;
+        add(out, &[b" ", row.address.bytes()])?;
     }
     Ok(())
 }

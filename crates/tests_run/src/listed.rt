@@ -2,25 +2,27 @@
 use alias_expand::{AliasFault, Aliases, Member};
 use mail_base::{Draw, NoMemory, Resolved, RouteError, Seq, Text, Triple};
 
+/// Adds these bytes, one after the other.
+pub(crate) fn add(out: &mut Text, parts: &[&[u8]]) -> Result<(), NoMemory> {
+    for part in parts {
+        out.extend(part)?;
+    }
+    Ok(())
+}
+
 /// Adds members: `<..>` is an address, `{..}` an include.
 pub(crate) fn show(members: &Seq<Member>, out: &mut Text) -> Result<(), NoMemory> {
     for member in members.items() {
         match member {
-            Member::Address(text) => bracket(out, b'<', text, b'>')?,
-            Member::Include(file) => bracket(out, b'{', file, b'}')?,
+            Member::Address(text) => add(out, &[b"<", text.bytes(), b">"])?,
+            Member::Include(file) => add(out, &[b"{", file.bytes(), b"}"])?,
         }
     }
     Ok(())
 }
 
-fn bracket(out: &mut Text, left: u8, text: &Text, right: u8) -> Result<(), NoMemory> {
-    out.push(left)?;
-    out.extend(text.bytes())?;
-    out.push(right)
-}
-
-/// What reading a text comes to: 0 where it is taken, its line where it is refused, and `None` where
-/// there was no memory, or the text is longer than a file may be.
+/// What reading a text comes to: 0 where it is taken, its line where it is refused, and `None`
+/// where there was no memory, or the text is longer than a file may be.
 pub(crate) fn outcome_of(aliases: &mut Aliases, text: &Text) -> Option<u32> {
     if text.len() > 4_294_967_295 {
         return None;
@@ -32,23 +34,16 @@ pub(crate) fn outcome_of(aliases: &mut Aliases, text: &Text) -> Option<u32> {
     }
 }
 
-fn put_code(out: &mut Text, code: u16) -> Result<(), NoMemory> {
-    let digits = format!(in out.allocator(); "{code} ")?;
-    out.extend(digits.as_bytes())
-}
-
 /// Adds the code of an error and its text.
 pub(crate) fn put_error(out: &mut Text, error: &RouteError) -> Result<(), NoMemory> {
-    put_code(out, error.code)?;
-    out.extend(error.text.bytes())
+    let code = error.code;
+    let digits = format!(in out.allocator(); "{code} ")?;
+    add(out, &[digits.as_bytes(), error.text.bytes()])
 }
 
 fn put_triple(out: &mut Text, triple: &Triple) -> Result<(), NoMemory> {
-    out.extend(triple.mailer.bytes())?;
-    out.push(b'/')?;
-    out.extend(triple.host.bytes())?;
-    out.push(b'/')?;
-    out.extend(triple.user.bytes())
+    let (mailer, host) = (triple.mailer.bytes(), triple.host.bytes());
+    add(out, &[mailer, b"/", host, b"/", triple.user.bytes()])
 }
 
 fn put_resolved(out: &mut Text, resolved: &Resolved) -> Result<(), NoMemory> {
@@ -59,11 +54,8 @@ fn put_resolved(out: &mut Text, resolved: &Resolved) -> Result<(), NoMemory> {
 }
 
 fn put_row(out: &mut Text, row: &Draw) -> Result<(), NoMemory> {
-    out.extend(row.address.bytes())?;
-    if row.primary {
-        out.push(b'=')?;
-    }
-    out.extend(row.sender.bytes())?;
+    let mark: &[u8] = if row.primary { b"=" } else { b"" };
+    add(out, &[row.address.bytes(), mark, row.sender.bytes()])?;
     put_resolved(out, &row.resolved)?;
     out.push(b';')
 }

@@ -3,26 +3,15 @@ use crate::listed::outcome_of;
 use alias_expand::Aliases;
 use mail_base::{NoMemory, Text};
 use std::alloc::Global;
-use std::test::Fail;
 
 const LINES: u32 = 100_000;
 
-fn push_number(text: &mut Text, number: u32) -> Result<(), NoMemory> {
-    let mut divisor: u32 = 100_000;
-    for _ in 0..6 {
-        text.push(b'0' + (number / divisor.max(1) % 10) as u8)?;
-        divisor = (divisor / 10).max(1);
-    }
-    Ok(())
-}
-
-// The names n000000 and on, each with a member `m`.
+// The names n0 and on, each with a member `m`.
 fn long_file(alloc: Global) -> Result<Text, NoMemory> {
     let mut text = Text::new(alloc);
     for number in 0..LINES {
-        text.push(b'n')?;
-        push_number(&mut text, number)?;
-        text.extend(b": m\n")?;
+        let line = format!(in alloc; "n{number}: m\n")?;
+        text.extend(line.as_bytes())?;
     }
     Ok(text)
 }
@@ -37,44 +26,47 @@ fn long_list(alloc: Global) -> Result<Text, NoMemory> {
 }
 
 fn has_name(aliases: &Aliases, alloc: Global, number: u32) -> Result<bool, NoMemory> {
-    let mut name = Text::of(alloc, b"N")?;
-    push_number(&mut name, number)?;
-    Ok(aliases.members(&name).is_some())
+    let name = format!(in alloc; "N{number}")?;
+    Ok(
+        aliases
+            .members(&Text::of(alloc, name.as_bytes())?)
+            .is_some(),
+    )
 }
 
-#[test]
-fn many_names_are_found(rt: HostRuntime) -> Result<(), Fail> {
-    let mut aliases = Aliases::new(rt.alloc());
-    let done = outcome_of(&mut aliases, &long_file(rt.alloc())?);
-    assert_eq!(rt; done, Some(0));
-    assert!(rt; has_name(&aliases, rt.alloc(), LINES - 1)?);
-    assert!(rt; !has_name(&aliases, rt.alloc(), LINES)?);
-    Ok(())
+fn are_found(alloc: Global) -> Result<bool, NoMemory> {
+    let mut aliases = Aliases::new(alloc);
+    let done = outcome_of(&mut aliases, &long_file(alloc)?);
+    Ok(
+        done == Some(0)
+            && has_name(&aliases, alloc, LINES - 1) == Ok(true)
+            && has_name(&aliases, alloc, LINES) == Ok(false),
+    )
 }
 
-#[test]
-fn the_last_of_many_lines_is_refused(rt: HostRuntime) -> Result<(), Fail> {
-    let mut aliases = Aliases::new(rt.alloc());
-    let mut text = long_file(rt.alloc())?;
+fn is_last_refused(alloc: Global) -> Result<bool, NoMemory> {
+    let mut text = long_file(alloc)?;
     text.extend(b"x\n")?;
-    let done = outcome_of(&mut aliases, &text);
-    assert_eq!(rt; done, Some(LINES + 1));
-    Ok(())
+    Ok(outcome_of(&mut Aliases::new(alloc), &text) == Some(LINES + 1))
 }
 
-fn count(aliases: &Aliases, alloc: Global) -> Result<usize, NoMemory> {
-    let name = Text::of(alloc, b"l")?;
-    match aliases.members(&name) {
-        Some(members) => Ok(members.len()),
-        None => Ok(0),
+fn count(aliases: &Aliases, name: &Text) -> usize {
+    match aliases.members(name) {
+        Some(members) => members.len(),
+        None => 0,
     }
 }
 
+fn is_list_whole(alloc: Global) -> Result<bool, NoMemory> {
+    let name = Text::of(alloc, b"l")?;
+    let mut aliases = Aliases::new(alloc);
+    let done = outcome_of(&mut aliases, &long_list(alloc)?);
+    Ok(done == Some(0) && count(&aliases, &name) == LINES as usize + 1)
+}
+
 #[test]
-fn a_long_list_is_whole(rt: HostRuntime) -> Result<(), Fail> {
-    let mut aliases = Aliases::new(rt.alloc());
-    let done = outcome_of(&mut aliases, &long_list(rt.alloc())?);
-    assert_eq!(rt; done, Some(0));
-    assert_eq!(rt; count(&aliases, rt.alloc())?, LINES as usize + 1);
-    Ok(())
+fn many_names_are_found_many_lines_counted_and_long_lists_whole(rt: HostRuntime) {
+    assert!(rt; are_found(rt.alloc()) == Ok(true));
+    assert!(rt; is_last_refused(rt.alloc()) == Ok(true));
+    assert!(rt; is_list_whole(rt.alloc()) == Ok(true));
 }

@@ -1,47 +1,21 @@
 // Messages of many rows.
+use crate::drawn::row_of;
 use crate::samples::config_of;
-use mail_base::{Config, Cut, Draw, NoMemory, Resolved, Seq, Text, Triple};
+use mail_base::{Cut, Draw, NoMemory, Seq, Text};
 use queue_plan::{distinct, parts};
 use std::alloc::Global;
 use std::test::Fail;
 
 // The group bulk has a hundred recipients an entry.
-const CONFIG: &[u8] = b"Qbulk, Path=/q/bulk, recipients=100\n";
-
-// A number of four digits.
-fn digits(alloc: Global, number: u32) -> Result<Text, NoMemory> {
-    let mut text = Text::new(alloc);
-    text.push(b'0' + (number / 1_000 % 10) as u8)?;
-    text.push(b'0' + (number / 100 % 10) as u8)?;
-    text.push(b'0' + (number / 10 % 10) as u8)?;
-    text.push(b'0' + (number % 10) as u8)?;
-    Ok(text)
-}
-
-fn triple_of(alloc: Global, user: u32) -> Result<Resolved, NoMemory> {
-    let mailer = Text::of(alloc, b"smtp")?;
-    let host = Text::of(alloc, b"far.example")?;
-    let user = digits(alloc, user)?;
-    Ok(Resolved::Goes(Triple { mailer, host, user }))
-}
-
-fn row_of(alloc: Global, number: u32, user: u32) -> Result<Draw, NoMemory> {
-    let address = digits(alloc, number)?;
-    let sender = Text::of(alloc, b"<bob@c.example>")?;
-    let resolved = triple_of(alloc, user)?;
-    Ok(Draw {
-        address,
-        sender,
-        primary: true,
-        resolved,
-    })
-}
+static CONFIG: &[u8] = b"Qbulk, Path=/q/bulk, recipients=100\n";
 
 // So many rows, whose users come again after so many.
 fn rows_of(alloc: Global, count: u32, users: u32) -> Result<Seq<Draw>, NoMemory> {
     let mut rows = Seq::new(alloc);
     for number in 0..count {
-        rows.push(row_of(alloc, number, number % users.max(1))?)?;
+        let user = number % users.max(1);
+        let line = format!(in alloc; "{number} <bob@c.example> smtp far.example {user}")?;
+        rows.push(row_of(alloc, line.as_bytes())?)?;
     }
     Ok(rows)
 }
@@ -56,38 +30,38 @@ fn groups_of(alloc: Global, count: usize, bulk: usize) -> Result<Seq<Text>, NoMe
     Ok(groups)
 }
 
-// The sizes of parts, as far as they fit into a list.
-fn sizes(cuts: &[Cut]) -> (usize, usize, usize, usize, usize) {
-    let size = |place: usize| match cuts.get(place) {
-        Some(cut) => cut.rows.len(),
-        None => 0,
-    };
-    (cuts.len(), size(0), size(1), size(2), size(3))
-}
+/// How many rows there are, how many of them are in bulk, in how many parts they come, and the
+/// sizes of the first of these.
+type Row = (u32, usize, usize, &'static [usize]);
 
-fn sizes_of(
-    alloc: Global,
-    config: &Config,
-    count: u32,
-    bulk: usize,
-) -> Result<(usize, usize, usize, usize, usize), NoMemory> {
-    let rows = rows_of(alloc, count, count)?;
-    let groups = groups_of(alloc, rows.len(), bulk)?;
-    if groups.len() != rows.len() {
-        return Ok((0, 0, 0, 0, 0));
+static ROWS: [Row; 3] = [
+    (251, 250, 4, &[100, 100, 50, 1]),
+    (10_000, 10_000, 100, &[100, 100, 100, 100]),
+    (10_000, 0, 1, &[10_000]),
+];
+
+fn are_sizes(cuts: &[Cut], count: usize, first: &[usize]) -> bool {
+    for (cut, size) in cuts.iter().zip(first) {
+        if cut.rows.len() != *size {
+            return false;
+        }
     }
-    let cuts = parts(alloc, &rows, &groups, config)?;
-    Ok(sizes(cuts.items()))
+    cuts.len() == count
 }
 
-fn many_parts(
-    alloc: Global,
-    count: u32,
-    bulk: usize,
-) -> Result<(usize, usize, usize, usize, usize), Fail> {
+fn are_parts(alloc: Global, row: &Row) -> Result<bool, Fail> {
     let config = config_of(alloc, CONFIG)?;
-    Ok(sizes_of(alloc, &config, count, bulk)?)
+    let rows = rows_of(alloc, row.0, row.0)?;
+    let groups = groups_of(alloc, rows.len(), row.1)?;
+    if groups.len() != rows.len() {
+        return Ok(false);
+    }
+    let cuts = parts(alloc, &rows, &groups, &config)?;
+    Ok(are_sizes(cuts.items(), row.2, row.3))
 }
+
+/// How many rows there are, how many users, and how many rows stay.
+static KEPT: [(u32, u32, usize); 2] = [(10_000, 10_000, 10_000), (10_000, 7, 7)];
 
 fn kept(alloc: Global, count: u32, users: u32) -> Result<usize, NoMemory> {
     let rows = distinct(alloc, rows_of(alloc, count, users)?)?;
@@ -95,19 +69,16 @@ fn kept(alloc: Global, count: u32, users: u32) -> Result<usize, NoMemory> {
 }
 
 #[test]
-fn many_rows_have_many_parts(rt: HostRuntime) -> Result<(), Fail> {
-    assert_eq!(rt; many_parts(rt.alloc(), 251, 250)?, (4, 100, 100, 50, 1));
-    assert_eq!(rt;
-        many_parts(rt.alloc(), 10_000, 10_000)?,
-        (100, 100, 100, 100, 100)
-    );
-    assert_eq!(rt; many_parts(rt.alloc(), 10_000, 0)?, (1, 10_000, 0, 0, 0));
-    Ok(())
-}
-
-#[test]
-fn many_rows_stay_once(rt: HostRuntime) -> Result<(), Fail> {
-    assert_eq!(rt; kept(rt.alloc(), 10_000, 10_000)?, 10_000);
-    assert_eq!(rt; kept(rt.alloc(), 10_000, 7)?, 7);
+fn many_rows_stay_once_and_have_many_parts(rt: HostRuntime) -> Result<(), Fail> {
+    for row in &KEPT {
+        assert!(rt;
+            kept(rt.alloc(), row.0, row.1) == Ok(row.2),
+            "{} users",
+            row.1
+        );
+    }
+    for (at, row) in ROWS.iter().enumerate() {
+        assert!(rt; are_parts(rt.alloc(), row)?, "row {at}");
+    }
     Ok(())
 }

@@ -1,14 +1,15 @@
 // Groups of rows, rows that stay once, and parts: those that no session has.
 use crate::drawn::{put_addresses, rows_of, word};
+use crate::listed::add;
 use crate::samples::config_of;
-use mail_base::{Config, Cut, NoMemory, Seq, Text};
+use mail_base::{Config, Cut, NoMemory, Seq, Text, words_of};
 use map_tables::Maps;
 use queue_plan::{distinct, group_of, parts};
 use std::alloc::Global;
 use std::test::Fail;
 
 // The set answers by the address.
-const SET: &[u8] = b"Qbulk, r=100\nQslow\nMsmtp, P=[IPC], F=mu, Q=bulk, A=TCP $h\n\
+static SET: &[u8] = b"Qbulk, r=100\nQslow\nMsmtp, P=[IPC], F=mu, Q=bulk, A=TCP $h\n\
     Squeuegroup\nR<slow>\t$#slow\n";
 
 /// An address, the name of a mailer, and the group.
@@ -24,29 +25,32 @@ static GROUPS: [GroupRow; 5] = [
     (b"", b"smtp", b"bulk"),
 ];
 
-fn group(
+fn is_in_group(
     alloc: Global,
     config: &Config,
     maps: &Maps,
-    address: &[u8],
-    mailer: &[u8],
-) -> Result<Text, NoMemory> {
-    let address = Text::of(alloc, address)?;
-    let mailer = Text::of(alloc, mailer)?;
-    group_of(alloc, config, maps, &config.macros, &address, &mailer)
-}
-
-fn is_in_group(alloc: Global, row: &GroupRow) -> Result<bool, Fail> {
-    let config = config_of(alloc, SET)?;
-    let maps = Maps::load(alloc, &config, &Seq::new(alloc), &Text::new(alloc))?;
-    let given = group(alloc, &config, &maps, row.0, row.1)?;
-    Ok(given.bytes() == row.2)
+    row: &GroupRow,
+) -> Result<bool, NoMemory> {
+    let address = Text::of(alloc, row.0)?;
+    let mailer = Text::of(alloc, row.1)?;
+    let group = group_of(alloc, config, maps, &config.macros, &address, &mailer)?;
+    Ok(group.bytes() == row.2)
 }
 
 #[test]
 fn rows_have_their_groups(rt: HostRuntime) -> Result<(), Fail> {
+    let config = config_of(rt.alloc(), SET)?;
+    let maps = Maps::load(
+        rt.alloc(),
+        &config,
+        &Seq::new(rt.alloc()),
+        &Text::new(rt.alloc()),
+    )?;
     for (at, row) in GROUPS.iter().enumerate() {
-        assert!(rt; is_in_group(rt.alloc(), row)?, "row {at}");
+        assert!(rt;
+            is_in_group(rt.alloc(), &config, &maps, row) == Ok(true),
+            "row {at}"
+        );
     }
     Ok(())
 }
@@ -66,23 +70,21 @@ static ONCE: [Row; 4] = [
     ),
 ];
 
-fn kept(alloc: Global, lines: &[&[u8]]) -> Result<Text, NoMemory> {
-    let rows = distinct(alloc, rows_of(alloc, lines)?)?;
+fn are_kept(alloc: Global, row: &Row) -> Result<bool, NoMemory> {
+    let rows = distinct(alloc, rows_of(alloc, row.0)?)?;
     let mut out = Text::new(alloc);
     put_addresses(&mut out, rows.items())?;
-    Ok(out)
+    Ok(out.bytes() == row.1)
 }
 
 #[test]
-fn equal_rows_stay_once(rt: HostRuntime) -> Result<(), Fail> {
+fn equal_rows_stay_once(rt: HostRuntime) {
     for (at, row) in ONCE.iter().enumerate() {
-        let kept = kept(rt.alloc(), row.0)?;
-        assert_eq!(rt; kept.bytes(), row.1, "row {at}");
+        assert!(rt; are_kept(rt.alloc(), row) == Ok(true), "row {at}");
     }
-    Ok(())
 }
 
-const CONFIG: &[u8] = b"Qtwo, r=2\nQone, r=1\nQany\n";
+static CONFIG: &[u8] = b"Qtwo, r=2\nQone, r=1\nQany\n";
 
 // Each line has its group as the sixth word.
 static PARTS: [Row; 3] = [
@@ -117,16 +119,14 @@ static PARTS: [Row; 3] = [
 fn groups_of(alloc: Global, lines: &[&[u8]]) -> Result<Seq<Text>, NoMemory> {
     let mut groups = Seq::new(alloc);
     for line in lines {
-        groups.push(Text::of(alloc, word(line, 5))?)?;
+        let words = words_of(alloc, line)?;
+        groups.push(Text::of(alloc, word(&words, 5))?)?;
     }
     Ok(groups)
 }
 
 fn put_part(out: &mut Text, cut: &Cut) -> Result<(), NoMemory> {
-    out.extend(cut.sender.bytes())?;
-    out.push(b' ')?;
-    out.extend(cut.group.bytes())?;
-    out.push(b':')?;
+    add(out, &[cut.sender.bytes(), b" ", cut.group.bytes(), b":"])?;
     put_addresses(out, cut.rows.items())?;
     out.push(b'\n')
 }
@@ -138,30 +138,23 @@ fn put_parts(out: &mut Text, cuts: &[Cut]) -> Result<(), NoMemory> {
     Ok(())
 }
 
-fn parted(alloc: Global, config: &Config, lines: &[&[u8]]) -> Result<Option<Text>, NoMemory> {
-    let rows = rows_of(alloc, lines)?;
-    let groups = groups_of(alloc, lines)?;
+fn is_parted(alloc: Global, config: &Config, row: &Row) -> Result<bool, NoMemory> {
+    let rows = rows_of(alloc, row.0)?;
+    let groups = groups_of(alloc, row.0)?;
     if groups.len() != rows.len() {
-        return Ok(None);
+        return Ok(false);
     }
     let cuts = parts(alloc, &rows, &groups, config)?;
     let mut out = Text::new(alloc);
     put_parts(&mut out, cuts.items())?;
-    Ok(Some(out))
-}
-
-fn is_parted(alloc: Global, config: &Config, row: &Row) -> Result<bool, NoMemory> {
-    match parted(alloc, config, row.0)? {
-        Some(text) => Ok(text.bytes() == row.1),
-        None => Ok(false),
-    }
+    Ok(out.bytes() == row.1)
 }
 
 #[test]
 fn rows_are_cut_into_parts(rt: HostRuntime) -> Result<(), Fail> {
     let config = config_of(rt.alloc(), CONFIG)?;
     for (at, row) in PARTS.iter().enumerate() {
-        assert!(rt; is_parted(rt.alloc(), &config, row)?, "row {at}");
+        assert!(rt; is_parted(rt.alloc(), &config, row) == Ok(true), "row {at}");
     }
     Ok(())
 }

@@ -8,7 +8,7 @@ use spool_store::Queue;
 use std::alloc::Global;
 use std::test::Fail;
 
-static CONTROL: &[u8] =
+const CONTROL: &[u8] =
     b"V1\nv1\ngmqueue\nT1767225600\nK0\nN0\nP30022\nc0\nS<bob@c.example>\n$rSMTP\n$sc.example\n\
         ${client_addr}192.0.2.1\nRPFD:<ann@mx.example>\neQ\nHSubject: hi\n.\n";
 
@@ -25,13 +25,26 @@ fn file(alloc: Global, name: &[u8], bytes: &[u8]) -> Result<File, NoMemory> {
     Ok(File { dir, name, bytes })
 }
 
-// A queue with an entry and a file of another name, some of whose calls fail.
+// The files of an entry, and one of another name.
+static FILES: [(&[u8], &[u8]); 3] = [
+    (b"qfw000000000001", CONTROL),
+    (b"dfw000000000001", b"hello\r\n"),
+    (b"note", b""),
+];
+
+// A queue of these files, some of whose calls fail.
 fn queue(alloc: Global, failing: Seq<u64>) -> Result<MemSpool, NoMemory> {
     let mut files = Seq::new(alloc);
-    files.push(file(alloc, b"qfw000000000001", CONTROL)?)?;
-    files.push(file(alloc, b"dfw000000000001", b"hello\r\n")?)?;
-    files.push(file(alloc, b"note", b"")?)?;
+    for (name, bytes) in &FILES {
+        files.push(file(alloc, name, bytes)?)?;
+    }
     MemSpool::of(alloc, files, failing)
+}
+
+fn table_over(alloc: Global, spool: &mut MemSpool, config: &Config) -> Result<Table, StoreFault> {
+    let dirs = Terms::of(config)?.dirs()?;
+    let opened = Queue::open(alloc, spool, &dirs)?;
+    Ok(Table::over(opened, config)?)
 }
 
 // The listing of a queue that is opened, of which that call fails.
@@ -40,19 +53,17 @@ fn listed(alloc: Global, fails: u64) -> Result<Text, StoreFault> {
     failing.push(fails)?;
     let mut spool = queue(alloc, failing)?;
     let config = Config::new(alloc)?;
-    let dirs = Terms::of(&config)?.dirs()?;
-    let opened = Queue::open(alloc, &mut spool, &dirs)?;
-    let table = Table::over(opened, &config)?;
+    let table = table_over(alloc, &mut spool, &config)?;
     listing(alloc, &table, &mut spool)
 }
 
 #[test]
 fn a_queue_is_listed(rt: HostRuntime) -> Result<(), Fail> {
-    assert_eq!(rt; listed(rt.alloc(), 99)?.bytes(), LISTING);
+    assert!(rt; listed(rt.alloc(), 99)?.bytes() == LISTING);
     Ok(())
 }
 
 #[test]
 fn a_body_that_cannot_be_read_is_a_fault_of_the_spool(rt: HostRuntime) {
-    assert_eq!(rt; listed(rt.alloc(), 2).err(), Some(StoreFault::SpoolFault));
+    assert!(rt; listed(rt.alloc(), 2).err() == Some(StoreFault::SpoolFault));
 }

@@ -10,31 +10,53 @@ use mail_judge::{Grounds, Rules};
 use std::alloc::Global;
 use std::test::Fail;
 
-// A receiver, and its rows: each as its address, `=` where it stands for the receiver itself, its
-// sender, and where it goes or why it goes nowhere.
-type Row = (&'static [u8], &'static [u8]);
+// The files: those of all cases, a crowd, or those of which the first call fails.
+enum Files {
+    All,
+    Crowd,
+    Failing,
+}
 
-static ROWS: [Row; 10] = [
+fn files_for(alloc: Global, files: &Files) -> Result<MemFiles, Fail> {
+    match files {
+        Files::All => files_of(alloc, &[]),
+        Files::Crowd => crowded(alloc),
+        Files::Failing => files_of(alloc, &[0]),
+    }
+}
+
+// Files, a receiver, and its rows: each as its address, `=` where it stands for the receiver
+// itself, its sender, and where it goes or why it goes nowhere.
+type Row = (Files, &'static [u8], &'static [u8]);
+
+static ROWS: [Row; 12] = [
     // A leaf, an alias of two members whose owner isn't their sender, and a file that is included.
-    (b"<ann>", b"<ann>=<>local//ann;"),
-    (b"ann", b"ann=<>local//ann;"),
-    (b"<two>", b"ann<>local//ann;bob@far<>smtp/far/bob;"),
+    (Files::All, b"<ann>", b"<ann>=<>local//ann;"),
+    (Files::All, b"ann", b"ann=<>local//ann;"),
     (
+        Files::All,
+        b"<two>",
+        b"ann<>local//ann;bob@far<>smtp/far/bob;",
+    ),
+    (
+        Files::All,
         b"<inc>",
         b"ann<>local//ann;joe<>local//joe;bob@far<>smtp/far/bob;",
     ),
     // The macro f is the configuration's own.
-    (b"<x@by>", b"<x@by>=<>smtp/fset/x;"),
+    (Files::All, b"<x@by>", b"<x@by>=<>smtp/fset/x;"),
     // No check set is asked.
-    (b"<no>", b"<no>=<>local//no;"),
-    // No rows by aliases: a route that is an error, levels, a file that isn't there, and a loop.
-    (b"<ann@off>", b"<ann@off>=<>550 no;"),
-    (b"<a1>", b"<a1>=<>local//a1;"),
-    (b"<lost>", b"<lost>=<>local//lost;"),
-    (b"<loop>", b"<loop>=<>local//loop;"),
+    (Files::All, b"<no>", b"<no>=<>local//no;"),
+    // No rows by aliases: a route that is an error, levels, a file that isn't there, a loop, and
+    // more members than an address may come to.
+    (Files::All, b"<ann@off>", b"<ann@off>=<>550 no;"),
+    (Files::All, b"<a1>", b"<a1>=<>local//a1;"),
+    (Files::All, b"<lost>", b"<lost>=<>local//lost;"),
+    (Files::All, b"<loop>", b"<loop>=<>local//loop;"),
+    (Files::Crowd, b"<crowd>", b"<crowd>=<>local//crowd;"),
+    // A receiver whose alias names a file makes the call that fails.
+    (Files::Failing, b"<inc>", b"a fault of files"),
 ];
-
-static CROWD: Row = (b"<crowd>", b"<crowd>=<>local//crowd;");
 
 // A receiver on one line.
 fn receiver_of(alloc: Global, address: &[u8]) -> Result<Text, Fail>
@@ -69,40 +91,19 @@ fn put_outcome(out: &mut Text, outcome: &Result<Seq<Draw>, JudgeFault>) -> Resul
     }
 }
 
-fn is_right(alloc: Global, world: &World, files: &mut MemFiles, row: &Row) -> Result<bool, Fail> {
-    let outcome = drawn(alloc, world, files, row.0)?;
+fn is_right(alloc: Global, world: &World, row: &Row) -> Result<bool, Fail> {
+    let mut files = files_for(alloc, &row.0)?;
+    let outcome = drawn(alloc, world, &mut files, row.1)?;
     let mut out = Text::new(alloc);
     put_outcome(&mut out, &outcome)?;
-    Ok(out.bytes() == row.1)
+    Ok(out.bytes() == row.2)
 }
 
 #[test]
 fn receivers_have_their_rows(rt: HostRuntime) -> Result<(), Fail> {
     let world = world_of(rt.alloc())?;
-    let mut files = files_of(rt.alloc(), &[])?;
     for (at, row) in ROWS.iter().enumerate() {
-        assert!(rt; is_right(rt.alloc(), &world, &mut files, row)?, "row {at}");
+        assert!(rt; is_right(rt.alloc(), &world, row)?, "row {at}");
     }
-    Ok(())
-}
-
-#[test]
-fn a_crowd_has_no_rows_by_aliases(rt: HostRuntime) -> Result<(), Fail> {
-    let world = world_of(rt.alloc())?;
-    let mut files = crowded(rt.alloc())?;
-    assert!(rt; is_right(rt.alloc(), &world, &mut files, &CROWD)?);
-    Ok(())
-}
-
-// The first call of the files fails, which a receiver makes whose alias names one.
-fn does_fault(alloc: Global) -> Result<bool, Fail> {
-    let world = world_of(alloc)?;
-    let mut files = files_of(alloc, &[0])?;
-    is_right(alloc, &world, &mut files, &(b"<inc>", b"a fault of files"))
-}
-
-#[test]
-fn a_file_that_fails_draws_no_rows(rt: HostRuntime) -> Result<(), Fail> {
-    assert!(rt; does_fault(rt.alloc())?);
     Ok(())
 }

@@ -1,5 +1,5 @@
 // What an address comes to: its rows, or why it has none.
-use crate::listed::{put_error, put_rows};
+use crate::listed::{add, put_error, put_rows};
 use crate::worlds::{World, files_of, world_of, world_with};
 use alias_expand::{ExpandRefusal, expand};
 use mail_base::{Draw, NoMemory, Seq, Text};
@@ -27,10 +27,7 @@ fn put_refusal(out: &mut Text, refusal: &ExpandRefusal) -> Result<(), NoMemory> 
             out.extend(b"refused ")?;
             put_error(out, error)
         }
-        ExpandRefusal::IncludeAbsent(name) => {
-            out.extend(b"absent ")?;
-            out.extend(name.bytes())
-        }
+        ExpandRefusal::IncludeAbsent(name) => add(out, &[b"absent ", name.bytes()]),
         ExpandRefusal::TooDeep => out.extend(b"too deep"),
         ExpandRefusal::TooMany => out.extend(b"too many"),
         ExpandRefusal::NoOne => out.extend(b"no one"),
@@ -94,20 +91,22 @@ fn add_words(text: &mut Text, words: &str) -> Result<(), NoMemory> {
     text.extend(words.as_bytes())
 }
 
-fn is_read_so_often(alloc: Global, count: u32, row: &Row) -> Result<bool, Fail> {
+/// How many files are read for the members of an alias, and what it comes to.
+static OFTEN: [(u32, &[u8]); 2] = [(20_000, b"ann<s>local//ann;"), (20_001, b"too many")];
+
+fn is_read_so_often(alloc: Global, count: u32, told: &'static [u8]) -> Result<bool, Fail> {
     let world = world_with(alloc, &reading_so_often(alloc, count)?)?;
-    is_right(alloc, &world, row)
+    is_right(alloc, &world, &(b"all", b"<s>", told))
 }
 
 #[test]
 fn files_are_read_so_often_and_no_more(rt: HostRuntime) -> Result<(), Fail> {
-    let row = (
-        b"all".as_slice(),
-        b"<s>".as_slice(),
-        b"ann<s>local//ann;".as_slice(),
-    );
-    assert!(rt; is_read_so_often(rt.alloc(), 20_000, &row)?);
-    let row = (b"all".as_slice(), b"<s>".as_slice(), b"too many".as_slice());
-    assert!(rt; is_read_so_often(rt.alloc(), 20_001, &row)?);
+    for row in &OFTEN {
+        assert!(rt;
+            is_read_so_often(rt.alloc(), row.0, row.1)?,
+            "{} files",
+            row.0
+        );
+    }
     Ok(())
 }

@@ -1,4 +1,4 @@
-// Files and configurations made of texts, and words.
+// Files and configurations made of texts.
 use cf_reader::read;
 use mail_base::{Config, NoMemory, Seq, Text};
 use mail_edge::{MemFiles, SureFiles};
@@ -31,13 +31,4 @@ pub(crate) fn config_of(alloc: Global, text: &[u8]) -> Result<Config, Fail> {
         Ok(config) => Ok(config),
         Err(_) => Err(Fail::from("a refused configuration")),
     }
-}
-
-/// The words of a command line, which blanks part.
-pub(crate) fn words_of(alloc: Global, line: &[u8]) -> Result<Seq<Text>, NoMemory> {
-    let mut words = Seq::new(alloc);
-    for word in line.split(|byte| *byte == b' ') {
-        words.push(Text::of(alloc, word)?)?;
-    }
-    Ok(words)
 }

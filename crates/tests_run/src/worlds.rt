@@ -8,7 +8,6 @@ use std::alloc::Global;
 use std::test::Fail;
 
 /// What addresses are expanded and recipients are judged by.
-#[derive(Drop)]
 pub(crate) struct World {
     pub config: Config,
     pub maps: Maps,
@@ -16,10 +15,22 @@ pub(crate) struct World {
     pub homes: Homes,
 }
 
+// Written out, since a caller's proof goes through the parts of a derived drop at each way out.
+impl Drop for World {
+    fn drop(self) {
+        let World {
+            config: _,
+            maps: _,
+            aliases: _,
+            homes: _,
+        } = self;
+    }
+}
+
 // Levels go to 2. Addresses in `far` and `by` go by smtp, of which `by` has the host `f` and the
 // value of f behind it; other hosts have no route, and what has no host is local; a leaf `moved`
 // goes elsewhere by set 5. The sets refuse the sender `bad` and the recipient `no`.
-const RULES: &[u8] = b"DjHOST\nDfset\nO MaxAliasRecursion=2\nO OperatorChars=.:%@!^/[]+\n\
+static RULES: &[u8] = b"DjHOST\nDfset\nO MaxAliasRecursion=2\nO OperatorChars=.:%@!^/[]+\n\
     Mlocal, P=/bin/mail, F=lsDFMAw5, A=mail -d $u\nMprog, P=/bin/sh, F=lsDFM, A=sh -c $u\n\
     Msmtp, P=[IPC], F=mDFMuX, A=TCP $h\n\
     S3\nR$* < $+ > $*\t$2\n\
@@ -29,26 +40,27 @@ const RULES: &[u8] = b"DjHOST\nDfset\nO MaxAliasRecursion=2\nO OperatorChars=.:%
     Scheck_mail\nR< bad >\t$#error $@ 5.7.1 $: not from you\n\
     Scheck_rcpt\nR< no >\t$#error $@ 5.7.1 $: not here\n";
 
-const ALIASES: &[u8] = b"one: ann\ntwo: one, bob@far\nowner-two: olga\nself: self, ann\n\
+static ALIASES: &[u8] = b"one: ann\ntwo: one, bob@far\nowner-two: olga\nself: self, ann\n\
     loop: pool\npool: loop\nround: around, ann\naround: round\n\
     a1: a2\na2: a3\na3: ann\nprog: \"|/bin/x y\"\nesc: \\one\n\
     inc: :include:/list\nlost: :include:/none\ntwice: :include:/list, :include:/list\n\
     nohost: ann@off, bob@far\nboth: bob@far, bob@far\nowned: ann\nowner-owned: x, y\n\
     crowd: :include:/crowd\n";
 
-const HOMES: &[u8] = b"kim /k\nlee /l\nmoved /m\nsue /s\n";
+static HOMES: &[u8] = b"kim /k\nlee /l\nmoved /m\nsue /s\n";
+
+static FILES: [(&str, &[u8]); 6] = [
+    ("/list", b"ann, :include:/more\n# none\nbob@far\n"),
+    ("/more", b"joe\n:include:/list\n"),
+    ("/k/.forward", b"kim, ann\n"),
+    ("/l/.forward", b"\\lee, bob@far\n"),
+    ("/m/.forward", b"ann\n"),
+    ("/empty", b""),
+];
 
 /// The files, of which the calls with these numbers fail.
 pub(crate) fn files_of(alloc: Global, failing: &[u64]) -> Result<MemFiles, Fail> {
-    let files: [(&str, &[u8]); 6] = [
-        ("/list", b"ann, :include:/more\n# none\nbob@far\n"),
-        ("/more", b"joe\n:include:/list\n"),
-        ("/k/.forward", b"kim, ann\n"),
-        ("/l/.forward", b"\\lee, bob@far\n"),
-        ("/m/.forward", b"ann\n"),
-        ("/empty", b""),
-    ];
-    crate::samples::files_of(alloc, &files, failing)
+    crate::samples::files_of(alloc, &FILES, failing)
 }
 
 /// A file of more members than an address may come to.
