@@ -46,22 +46,6 @@ fn finds(alloc: Global, row: &Row) -> Result<bool, NoMemory> {
     )
 }
 
-#[test]
-fn rulesets_are_found_by_their_names(rt: HostRuntime) -> Result<(), Fail> {
-    for (at, row) in PLACES.iter().enumerate() {
-        assert!(rt; finds(rt.alloc(), row)?, "row {at}");
-    }
-    Ok(())
-}
-
-fn grown(alloc: Global) -> Result<Book, Fail> {
-    let mut book = book_of(alloc, &[b"one", b"two"])?;
-    if book.sets().len() > 1 {
-        book.push_rule(1, rule(alloc)?)?;
-    }
-    Ok(book)
-}
-
 fn has_one_rule(sets: &[RuleSet]) -> bool {
     match sets {
         [one, two] => one.count() == 0 && two.count() == 1,
@@ -69,9 +53,19 @@ fn has_one_rule(sets: &[RuleSet]) -> bool {
     }
 }
 
+fn grows(alloc: Global) -> Result<bool, Fail> {
+    let mut book = book_of(alloc, &[b"one", b"two"])?;
+    if book.sets().len() > 1 {
+        book.push_rule(1, rule(alloc)?)?;
+    }
+    Ok(has_one_rule(book.sets()))
+}
+
 #[test]
-fn a_rule_goes_to_its_ruleset(rt: HostRuntime) -> Result<(), Fail> {
-    let book = grown(rt.alloc())?;
-    assert!(rt; has_one_rule(book.sets()));
+fn rulesets_are_found_by_their_names_and_rules_go_to_theirs(rt: HostRuntime) -> Result<(), Fail> {
+    for (at, row) in PLACES.iter().enumerate() {
+        assert!(rt; finds(rt.alloc(), row) == Ok(true), "row {at}");
+    }
+    assert!(rt; grows(rt.alloc())?);
     Ok(())
 }

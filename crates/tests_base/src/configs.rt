@@ -33,12 +33,6 @@ fn starts_preset(alloc: Global) -> Result<bool, NoMemory> {
     Ok(is_preset(&config) && is_preset(&copied) && are_preset(&copied.options))
 }
 
-#[test]
-fn presets_stand_before_any_line(rt: HostRuntime) -> Result<(), Fail> {
-    assert!(rt; starts_preset(rt.alloc())?);
-    Ok(())
-}
-
 fn mailer(alloc: Global, name: &[u8], path: &[u8]) -> Result<Mailer, NoMemory> {
     Ok(Mailer {
         name: Text::of(alloc, name)?,
@@ -165,12 +159,8 @@ fn steps(alloc: Global) -> Result<Seq<Step>, NoMemory> {
     Ok(steps)
 }
 
-fn left(alloc: Global) -> Result<Pattern, Fail> {
-    Ok(Pattern::of(items(alloc, b"*")?).ok_or("one is few")?)
-}
-
 pub(crate) fn rule(alloc: Global) -> Result<Rule, Fail> {
-    let left = left(alloc)?;
+    let left = Pattern::of(items(alloc, b"*")?).ok_or("one is few")?;
     let steps = steps(alloc)?;
     let right = Template {
         go: Go::Next,
@@ -333,16 +323,15 @@ fn is_bulk(group: Option<&Group>) -> bool {
 
 fn is_lookup(step: &Step) -> bool {
     match step {
-        Step::Lookup(lookup) => is_query(lookup.query()),
+        Step::Lookup(lookup) => {
+            let query = lookup.query();
+            query.name.bytes() == b"host".as_slice()
+                && query.key.len() == 1
+                && query.args.len() == 1
+                && query.fallback.is_some()
+        }
         _ => false,
     }
-}
-
-fn is_query(query: &Query) -> bool {
-    query.name.bytes() == b"host".as_slice()
-        && query.key.len() == 1
-        && query.args.len() == 1
-        && query.fallback.is_some()
 }
 
 fn are_steps(steps: &[Step]) -> bool {
@@ -397,17 +386,10 @@ fn has_names(alloc: Global, config: &Config) -> Result<bool, NoMemory> {
     )
 }
 
-fn copied(alloc: Global) -> Result<Config, Fail> {
+fn is_copied(alloc: Global) -> Result<bool, Fail> {
     let config = filled(alloc)?;
-    Ok(config.copy()?)
-}
-
-#[test]
-fn configurations_are_copied(rt: HostRuntime) -> Result<(), Fail> {
-    let copied = copied(rt.alloc())?;
-    let has_names = has_names(rt.alloc(), &copied)?;
-    assert!(rt; has_names && has_lines(&copied));
-    Ok(())
+    let copied = config.copy()?;
+    Ok(has_names(alloc, &copied)? && has_lines(&copied))
 }
 
 /// Names, and the paths of the mailers that they name.
@@ -435,10 +417,17 @@ fn finds(
 }
 
 #[test]
-fn mailers_are_found_without_case(rt: HostRuntime) -> Result<(), Fail> {
+fn configurations_are_preset_and_copied_and_find_mailers_without_case(
+    rt: HostRuntime,
+) -> Result<(), Fail> {
+    assert!(rt; starts_preset(rt.alloc()) == Ok(true));
+    assert!(rt; is_copied(rt.alloc())?);
     let config = filled(rt.alloc())?;
     for (at, (name, path)) in MAILERS.iter().enumerate() {
-        assert!(rt; finds(rt.alloc(), &config, name, *path)?, "row {at}");
+        assert!(rt;
+            finds(rt.alloc(), &config, name, *path) == Ok(true),
+            "row {at}"
+        );
     }
     Ok(())
 }

@@ -214,24 +214,16 @@ fn are_cut(cuts: &[Cut]) -> bool {
     }
 }
 
-fn goes_back(back: &Back) -> Result<bool, NoMemory> {
+fn goes_back(back: &Back) -> Result<bool, Fail> {
     let copied = back.copy()?;
     Ok(is_bounce(&copied.message) && are_cut(copied.cuts.items()))
 }
 
 /// What is copied is apart from its copy.
-fn is_apart(kept: &Kept) -> Result<bool, NoMemory> {
+fn is_apart(kept: &Kept) -> Result<bool, Fail> {
     let mut other = kept.copy()?;
     other.client.push(b'1')?;
     Ok(is_kept(kept) && !is_kept(&other))
-}
-
-#[test]
-fn marks_are_compared(rt: HostRuntime) {
-    let mut other = marks();
-    assert!(rt; other == marks());
-    other.warned = true;
-    assert!(rt; other != marks());
 }
 
 pub(crate) fn state(place: u8) -> Result<State, Fail> {
@@ -411,7 +403,7 @@ fn split(alloc: Global) -> Result<Split, NoMemory> {
     })
 }
 
-fn is_split_copied(split: &Split) -> Result<bool, NoMemory> {
+fn is_split_copied(split: &Split) -> Result<bool, Fail> {
     let copied = split.copy()?;
     Ok(copied.body.bytes() == b"hello".as_slice() && copied.headers.is_empty())
 }
@@ -441,19 +433,23 @@ static KINDS: [(Kind, &str); 8] = [
 
 fn is_copied(alloc: Global, kind: &Kind) -> Result<bool, Fail> {
     match kind {
-        Kind::Message => Ok(goes_back(&back(alloc)?)?),
-        Kind::Kept => Ok(is_apart(&kept(alloc)?)?),
+        Kind::Message => goes_back(&back(alloc)?),
+        Kind::Kept => is_apart(&kept(alloc)?),
         Kind::Entry => is_entry_copied(alloc),
         Kind::NewDraft => is_draft_copied(alloc, None),
         Kind::Draft => is_draft_copied(alloc, Some(Id::new(3))),
         Kind::Stray => is_stray_copied(alloc),
         Kind::Outcomes => are_outcomes_copied(alloc),
-        Kind::Split => Ok(is_split_copied(&split(alloc)?)?),
+        Kind::Split => is_split_copied(&split(alloc)?),
     }
 }
 
 #[test]
-fn copies_are_as_what_is_copied(rt: HostRuntime) -> Result<(), Fail> {
+fn copies_are_as_what_is_copied_and_marks_compared(rt: HostRuntime) -> Result<(), Fail> {
+    let mut other = marks();
+    assert!(rt; other == marks());
+    other.warned = true;
+    assert!(rt; other != marks());
     for (kind, name) in &KINDS {
         assert!(rt; is_copied(rt.alloc(), kind)?, "{name}");
     }

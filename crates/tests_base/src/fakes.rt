@@ -1,7 +1,6 @@
 use crate::Itself;
 use mail_base::{Draws, JudgeFault, NoMemory, Script, Seq, Text, TryCopy};
 use std::alloc::Global;
-use std::test::Fail;
 
 /// Scripts, by which calls are listed, which of four calls then fail, and how many those are.
 static SCRIPTS: [(&[u64], [bool; 4], u64); 4] = [
@@ -34,26 +33,17 @@ fn is_followed(
     Ok(follows && script.faults > faults)
 }
 
-#[test]
-fn listed_calls_fail(rt: HostRuntime) -> Result<(), Fail> {
-    for (at, (failing, calls, faults)) in SCRIPTS.iter().enumerate() {
-        assert!(rt;
-            is_followed(rt.alloc(), failing, calls, *faults)?,
-            "row {at}"
-        );
-    }
-    Ok(())
-}
-
 fn is_drawn(alloc: Global) -> Result<bool, JudgeFault> {
     let address = Text::of(alloc, b"postmaster")?;
     let rows = Itself.draw(alloc, &address)?;
-    let copied = rows.copy()?;
-    Ok(copied.len() == 1)
+    Ok(rows.copy()?.len() == 1)
 }
 
 #[test]
-fn a_receiver_is_drawn(rt: HostRuntime) -> Result<(), Fail> {
-    assert!(rt; is_drawn(rt.alloc())?);
-    Ok(())
+fn listed_calls_fail_and_a_receiver_is_drawn(rt: HostRuntime) {
+    for (at, (failing, calls, faults)) in SCRIPTS.iter().enumerate() {
+        let is_followed = is_followed(rt.alloc(), failing, calls, *faults);
+        assert!(rt; is_followed == Ok(true), "row {at}");
+    }
+    assert!(rt; is_drawn(rt.alloc()) == Ok(true));
 }

@@ -2,7 +2,6 @@ use crate::copies::cause;
 use mail_base::{EdgeFault, Failed, JudgeFault, LineFault, NoMemory, StoreFault, Verb};
 use std::alloc::Global;
 use std::fmt::Display;
-use std::test::Fail;
 
 /// A fault of any kind.
 enum Fault {
@@ -49,12 +48,12 @@ static FAULTS: [(Fault, &str); 16] = [
     ),
 ];
 
-fn is_shown(alloc: Global, fault: &impl Display, text: &str) -> Result<bool, Fail> {
+fn is_shown(alloc: Global, fault: &impl Display, text: &str) -> Result<bool, NoMemory> {
     let shown = format!(in alloc; "{fault}")?;
     Ok(shown.as_str() == text)
 }
 
-fn says(alloc: Global, fault: &Fault, text: &str) -> Result<bool, Fail> {
+fn says(alloc: Global, fault: &Fault, text: &str) -> Result<bool, NoMemory> {
     match fault {
         Fault::Memory => is_shown(alloc, &NoMemory, text),
         Fault::Device => is_shown(alloc, &Failed, text),
@@ -63,22 +62,6 @@ fn says(alloc: Global, fault: &Fault, text: &str) -> Result<bool, Fail> {
         Fault::Judge(fault) => is_shown(alloc, fault, text),
         Fault::Line(fault) => is_shown(alloc, fault, text),
     }
-}
-
-#[test]
-fn faults_say_what_they_are(rt: HostRuntime) -> Result<(), Fail> {
-    for (at, (fault, text)) in FAULTS.iter().enumerate() {
-        assert!(rt; says(rt.alloc(), fault, text)?, "row {at}");
-    }
-    Ok(())
-}
-
-#[test]
-fn faults_keep_want_of_memory_apart(rt: HostRuntime) {
-    assert!(rt; EdgeFault::from(NoMemory) == EdgeFault::NoMemory);
-    assert!(rt; EdgeFault::from(Failed) == EdgeFault::Failed);
-    assert!(rt; StoreFault::from(NoMemory) == StoreFault::NoMemory);
-    assert!(rt; JudgeFault::from(NoMemory) == JudgeFault::NoMemory);
 }
 
 /// The names of some causes, by their places in `cause`.
@@ -95,10 +78,23 @@ fn has_name(alloc: Global, place: u16, name: &[u8]) -> Result<bool, NoMemory> {
     Ok(cause.name() == name)
 }
 
+fn are_kept_apart() -> bool {
+    EdgeFault::from(NoMemory) == EdgeFault::NoMemory
+        && EdgeFault::from(Failed) == EdgeFault::Failed
+        && StoreFault::from(NoMemory) == StoreFault::NoMemory
+        && JudgeFault::from(NoMemory) == JudgeFault::NoMemory
+}
+
 #[test]
-fn causes_have_names(rt: HostRuntime) -> Result<(), Fail> {
-    for (place, name) in &NAMES {
-        assert!(rt; has_name(rt.alloc(), *place, name)?, "cause {place}");
+fn faults_say_what_they_are_and_keep_want_of_memory_apart_and_causes_have_names(rt: HostRuntime) {
+    for (at, (fault, text)) in FAULTS.iter().enumerate() {
+        assert!(rt; says(rt.alloc(), fault, text) == Ok(true), "row {at}");
     }
-    Ok(())
+    assert!(rt; are_kept_apart());
+    for (place, name) in &NAMES {
+        assert!(rt;
+            has_name(rt.alloc(), *place, name) == Ok(true),
+            "cause {place}"
+        );
+    }
 }

@@ -42,11 +42,10 @@ fn tells(alloc: Global, name: &[u8], told: Option<(Kind, u64)>) -> Result<bool, 
 }
 
 #[test]
-fn names_tell_their_ids(rt: HostRuntime) -> Result<(), Fail> {
+fn names_tell_their_ids(rt: HostRuntime) {
     for (at, (name, told)) in NAMES.iter().enumerate() {
-        assert!(rt; tells(rt.alloc(), name, *told)?, "row {at}");
+        assert!(rt; tells(rt.alloc(), name, *told) == Ok(true), "row {at}");
     }
-    Ok(())
 }
 
 /// Texts, what they are as notes, if anything, and whether they are notes as they stand.
@@ -66,15 +65,6 @@ fn is_noted(text: &[u8], noted: Option<&[u8]>) -> Result<bool, NoMemory> {
         Some(note) => Ok(noted == Some(note.bytes()) && note.bytes().len() <= Note::MOST),
         None => Ok(noted.is_none()),
     }
-}
-
-#[test]
-fn notes_are_cut_to_one_line(rt: HostRuntime) -> Result<(), Fail> {
-    for (at, (text, noted, stands)) in NOTES.iter().enumerate() {
-        let is_noted = is_noted(text, *noted)? && Note::of(text).is_some() == *stands;
-        assert!(rt; is_noted, "row {at}");
-    }
-    Ok(())
 }
 
 /// Texts, and whether they are enhanced statuses.
@@ -102,11 +92,14 @@ fn is_status(bytes: &[u8]) -> Result<bool, NoMemory> {
 }
 
 #[test]
-fn statuses_have_three_groups(rt: HostRuntime) -> Result<(), Fail> {
-    for (at, (bytes, taken)) in STATUSES.iter().enumerate() {
-        assert!(rt; is_status(bytes)? == *taken, "row {at}");
+fn notes_are_cut_to_one_line_and_statuses_have_three_groups(rt: HostRuntime) {
+    for (at, (text, noted, stands)) in NOTES.iter().enumerate() {
+        let stands = Note::of(text).is_some() == *stands;
+        assert!(rt; is_noted(text, *noted) == Ok(true) && stands, "note {at}");
     }
-    Ok(())
+    for (at, (bytes, taken)) in STATUSES.iter().enumerate() {
+        assert!(rt; is_status(bytes) == Ok(*taken), "status {at}");
+    }
 }
 
 /// Whether something is still to be done in a state, and whether it is dead, by its place.

@@ -1,7 +1,6 @@
 use crate::configs::is_word;
 use mail_base::{Catalog, Macros, Mark, NoMemory, Seq, Text, Token, TryCopy, Word};
 use std::alloc::Global;
-use std::test::Fail;
 
 /// A text's front, a byte and a rest that are added, the text that comes out, and the same in
 /// small letters.
@@ -68,14 +67,6 @@ fn grows_and_folds(alloc: Global, growth: &Growth) -> Result<bool, NoMemory> {
     Ok(is_grown(&text, growth) && is_folded(&text, &small, growth) && goes_and_clears(&text)?)
 }
 
-#[test]
-fn texts_grow_fold_and_are_cleared(rt: HostRuntime) -> Result<(), Fail> {
-    for (at, growth) in GROWTHS.iter().enumerate() {
-        assert!(rt; grows_and_folds(rt.alloc(), growth)?, "row {at}");
-    }
-    Ok(())
-}
-
 fn is_written_over(alloc: Global) -> Result<bool, NoMemory> {
     let mut name = Text::of(alloc, b"dfw000000000001")?;
     if name.len() == 15 {
@@ -85,9 +76,11 @@ fn is_written_over(alloc: Global) -> Result<bool, NoMemory> {
 }
 
 #[test]
-fn bytes_are_written_over(rt: HostRuntime) -> Result<(), Fail> {
-    assert!(rt; is_written_over(rt.alloc())?);
-    Ok(())
+fn texts_grow_fold_and_are_cleared_and_written_over(rt: HostRuntime) {
+    for (at, growth) in GROWTHS.iter().enumerate() {
+        assert!(rt; grows_and_folds(rt.alloc(), growth) == Ok(true), "row {at}");
+    }
+    assert!(rt; is_written_over(rt.alloc()) == Ok(true));
 }
 
 fn one_to_three(alloc: Global) -> Result<Seq<u32>, NoMemory> {
@@ -117,12 +110,6 @@ fn grow_and_change(alloc: Global) -> Result<bool, NoMemory> {
     Ok(is_same && lists_differ(&list, &Seq::from_vec(copied.into_vec())))
 }
 
-#[test]
-fn lists_grow_and_change(rt: HostRuntime) -> Result<(), Fail> {
-    assert!(rt; grow_and_change(rt.alloc())?);
-    Ok(())
-}
-
 /// How many of the items 1, 2 and 3 are kept at most, and what stays.
 static CUTS: [(usize, &[u32]); 4] = [(0, &[]), (1, &[1]), (3, &[1, 2, 3]), (4, &[1, 2, 3])];
 
@@ -133,11 +120,11 @@ fn is_cut(alloc: Global, most: usize, left: &[u32]) -> Result<bool, NoMemory> {
 }
 
 #[test]
-fn lists_are_cut(rt: HostRuntime) -> Result<(), Fail> {
+fn lists_grow_and_change_and_are_cut(rt: HostRuntime) {
+    assert!(rt; grow_and_change(rt.alloc()) == Ok(true));
     for (at, (most, left)) in CUTS.iter().enumerate() {
-        assert!(rt; is_cut(rt.alloc(), *most, left)?, "row {at}");
+        assert!(rt; is_cut(rt.alloc(), *most, left) == Ok(true), "row {at}");
     }
-    Ok(())
 }
 
 /// What is done to a catalog: a value is set at a name, or `None` takes the name out.
@@ -201,14 +188,6 @@ fn leave(alloc: Global, deeds: &[Deed], pairs: &[(&[u8], u32)]) -> Result<bool, 
     Ok(has_pairs(&copied, pairs))
 }
 
-#[test]
-fn names_keep_their_places(rt: HostRuntime) -> Result<(), Fail> {
-    for (at, (deeds, pairs)) in CATALOGS.iter().enumerate() {
-        assert!(rt; leave(rt.alloc(), deeds, pairs)?, "row {at}");
-    }
-    Ok(())
-}
-
 /// Whether the macro is the only one and `mx`, and is none in a copy where it is unset.
 fn are_kept(macros: &Macros, name: &Text) -> Result<bool, NoMemory> {
     let mut left = macros.copy()?;
@@ -229,9 +208,11 @@ fn are_set_and_unset(alloc: Global) -> Result<bool, NoMemory> {
 }
 
 #[test]
-fn macros_keep_their_values(rt: HostRuntime) -> Result<(), Fail> {
-    assert!(rt; are_set_and_unset(rt.alloc())?);
-    Ok(())
+fn names_keep_their_places_and_macros_their_values(rt: HostRuntime) {
+    for (at, (deeds, pairs)) in CATALOGS.iter().enumerate() {
+        assert!(rt; leave(rt.alloc(), deeds, pairs) == Ok(true), "row {at}");
+    }
+    assert!(rt; are_set_and_unset(rt.alloc()) == Ok(true));
 }
 
 /// A token, by the byte that writes it here: a word, a quoted string, an operator or a sign.
@@ -246,26 +227,21 @@ fn token(alloc: Global, letter: u8) -> Result<Token, NoMemory> {
     }
 }
 
-fn is_copied_as(one: &Token, other: &Token) -> Result<bool, NoMemory> {
-    let copied = one.copy()?;
-    Ok(copied == *other)
-}
-
 fn are_equal(alloc: Global, one: u8, other: u8) -> Result<bool, NoMemory> {
     let one = token(alloc, one)?;
-    is_copied_as(&one, &token(alloc, other)?)
+    let other = token(alloc, other)?;
+    Ok(one.copy()? == other)
 }
 
 #[test]
-fn tokens_are_copied_and_compared(rt: HostRuntime) -> Result<(), Fail> {
+fn tokens_are_copied_and_compared(rt: HostRuntime) {
     for one in b"wWquh@." {
         for other in b"wWquh@." {
-            let are_equal = are_equal(rt.alloc(), *one, *other)?;
+            let are_equal = are_equal(rt.alloc(), *one, *other);
             assert!(rt;
-                are_equal == one.eq_ignore_ascii_case(other),
+                are_equal == Ok(one.eq_ignore_ascii_case(other)),
                 "{one} and {other}"
             );
         }
     }
-    Ok(())
 }
